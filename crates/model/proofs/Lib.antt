@@ -1,0 +1,9 @@
+pub mod Budget
+pub mod Children
+pub mod Evenings
+pub mod Lawful
+pub mod Literal
+pub mod Once
+pub mod Points
+pub mod Sound
+pub mod Traces
