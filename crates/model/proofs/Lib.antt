@@ -7,3 +7,5 @@ pub mod Once
 pub mod Points
 pub mod Sound
 pub mod Traces
+pub mod Settled
+pub mod Stale

@@ -50,14 +50,18 @@ unfoldable pub dirty-at : State → ℕ → Bool
 unfolding seat
 dirty-at s t = has (s .dirty) (seat t)
 
+unfoldable pub fresh-and-clean : State → ℕ → Bool
+unfolding fresh-at dirty-at
+fresh-and-clean s t = fresh-at s t && not (dirty-at s t)
+
 -- every tablet is fresh and clean
 unfoldable pub every : (ℕ → Bool) → List ℕ → Bool
 every p [] = true
 every p (t ∷ ts) = p t && every p ts
 
 unfoldable pub settled : ℕ → State → Bool
-unfolding every fresh-at dirty-at tablets
-settled n s = every (λ t. fresh-at s t && not (dirty-at s t)) (tablets n)
+unfolding every fresh-and-clean tablets
+settled n s = every (fresh-and-clean s) (tablets n)
 
 -- ---- the first state: all values 0, conflict set empty, all tablets fresh and clean
 
