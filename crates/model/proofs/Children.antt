@@ -54,13 +54,15 @@ module _ {S O E : Type 0} (𝓢 : Service S O E) where
     choice-uses : (obs : List O) (c : Choice O E) → List·Memᴰ c (choices 𝓢 obs) → (𝓢 .shown (c .event) ++ c .left ≡ obs) × (obs ≡ [] → ⊥)
     unfolding choices
     choice-uses [] c m = absurd (List·Memᴰ·not-nil m)
-    choice-uses (o ∷ obs) c m =
-        (⊎-elim
+    choice-uses (o ∷ obs) c m = (
+      ⊎-elim
           (λ e. ap (λ (y : Choice O E). 𝓢 .shown (y .event) ++ y .left) e ∙ ap (λ (l : List O). l ++ obs) (𝓛 .seen o))
           (λ t.
-            let h = Memᴰ·of-map (choice 𝓢 (o ∷ obs)) (𝓢 .hidden) t in
-            ap (λ (y : Choice O E). 𝓢 .shown (y .event) ++ y .left) (sym (h .2)) ∙ ap (λ (l : List O). l ++ o ∷ obs) (𝓛 .unseen (h .0) (h .1)))
-          (List·Memᴰ·cases-cons {l = map (choice 𝓢 (o ∷ obs)) (𝓢 .hidden)} m), λ e. let z : _≡_ {A = ℕ} 0 1 = cc in omega arith)
+          let h = Memᴰ·of-map (choice 𝓢 (o ∷ obs)) (𝓢 .hidden) t in
+          ap (λ (y : Choice O E). 𝓢 .shown (y .event) ++ y .left) (sym (h .2)) ∙ ap (λ (l : List O). l ++ o ∷ obs) (𝓛 .unseen (h .0) (h .1)))
+          (List·Memᴰ·cases-cons {l = map (choice 𝓢 (o ∷ obs)) (𝓢 .hidden)} m),
+      λ e. let z : _≡_ {A = ℕ} 0 1 = cc in omega arith,
+    )
 
     pub child : (s : S) (obs : List O) (c : Choice O E) → List·Memᴰ c (children 𝓢 s obs) → Child s obs c
     unfolding children
@@ -77,10 +79,13 @@ module _ {S O E : Type 0} (𝓢 : Service S O E) where
     a-child s (o ∷ obs) e left h u z =
         ⊎-elim
         (λ k.
-          let same : (k .0) ∷ left ≡ o ∷ obs = ap (λ (l : List O). l ++ left) (sym (𝓛 .seen (k .0))) ∙ ap (λ (x : E). 𝓢 .shown x ++ left) (sym (k .1)) ∙ u in
-          let ev : e ≡ 𝓢 .observed o = k .1 ∙ ap (𝓢 .observed) (head-eq-of-cons-eq same) in
-          (choice 𝓢 obs (𝓢 .observed o), in-possible s (choices 𝓢 (o ∷ obs)) (choice 𝓢 obs (𝓢 .observed o)) (List·Memᴰ·head refl) (ap (𝓢 .may s) (sym ev) ∙ h), sym ev, sym (tail-eq-of-cons-eq same)))
-        (λ m.
-          (choice 𝓢 (o ∷ obs) e, in-possible s (choices 𝓢 (o ∷ obs)) (choice 𝓢 (o ∷ obs) e) (List·Memᴰ·tail (Memᴰ·map (choice 𝓢 (o ∷ obs)) m)) h, refl,
-            sym u ∙ ap (λ (l : List O). l ++ left) (𝓛 .unseen e m)))
+        let same : (k .0) ∷ left ≡ o ∷ obs = ap (λ (l : List O). l ++ left) (sym (𝓛 .seen (k .0))) ∙ ap (λ (x : E). 𝓢 .shown x ++ left) (sym (k .1)) ∙ u in
+        let ev : e ≡ 𝓢 .observed o = k .1 ∙ ap (𝓢 .observed) (head-eq-of-cons-eq same) in
+        (choice 𝓢 obs (𝓢 .observed o), in-possible s (choices 𝓢 (o ∷ obs)) (choice 𝓢 obs (𝓢 .observed o)) (List·Memᴰ·head refl) (ap (𝓢 .may s) (sym ev) ∙ h), sym ev, sym (tail-eq-of-cons-eq same)))
+        (λ m. (
+          choice 𝓢 (o ∷ obs) e,
+          in-possible s (choices 𝓢 (o ∷ obs)) (choice 𝓢 (o ∷ obs) e) (List·Memᴰ·tail (Memᴰ·map (choice 𝓢 (o ∷ obs)) m)) h,
+          refl,
+          sym u ∙ ap (λ (l : List O). l ++ left) (𝓛 .unseen e m),
+        ))
         (𝓛 .known s e h)

@@ -25,8 +25,9 @@ unfolding up-to
 up-to-has zero t l h = absurd (omega arith)
 up-to-has (suc k) t l h =
     elim (decLe t k) [
-      yes g ↦ Memᴰ·append-left (suc k ∷ []) (up-to-has k t l g)
-    | no g ↦ Memᴰ·append-right (up-to k) (List·Memᴰ·head (omega arith)) ]
+      | yes g ↦ Memᴰ·append-left (suc k ∷ []) (up-to-has k t l g)
+      | no g ↦ Memᴰ·append-right (up-to k) (List·Memᴰ·head (omega arith))
+    ]
 
 up-to-below : (k t : ℕ) → List·Memᴰ t (up-to k) → t ≤ k
 unfolding up-to
@@ -64,9 +65,9 @@ hidden-once n =
     (once-map Up (λ x y h. cc) (tablets n) (up-to-once (seats n)))
     (once-map Down (λ x y h. cc) (tablets n) (up-to-once (seats n)))
     (λ e m h.
-      let a = Memᴰ·of-map Up (tablets n) m .2 in
-      let b = Memᴰ·of-map Down (tablets n) h .2 in
-      let z : _≡_ {A = ℕ} 0 1 = cc in omega arith)
+    let a = Memᴰ·of-map Up (tablets n) m .2 in
+    let b = Memᴰ·of-map Down (tablets n) h .2 in
+    let z : _≡_ {A = ℕ} 0 1 = cc in omega arith)
 
 known : (n : ℕ) (s : State) (e : Event) → may n s e ≡ true → ((o : Observation) × (e ≡ Observed o)) ⊎ List·Memᴰ e (hidden n)
 unfolding may hidden

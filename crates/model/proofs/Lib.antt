@@ -9,3 +9,4 @@ pub mod Sound
 pub mod Traces
 pub mod Settled
 pub mod Stale
+pub mod Upload

@@ -127,6 +127,6 @@ module _ {S O E : Type 0} (𝓢 : Service S O E) where
     literal (suc d) s obs =
         visited-counted (suc d) s obs (λ c. points 𝓢 (suc d) (𝓢 .then s (c .event)) (c .left)) (λ c. walked 𝓢 d (𝓢 .then s (c .event)) (c .left))
         (λ c m j.
-          counted-map d obs (c .left) (c .event) (child 𝓢 𝓛 s obs c m .uses) j (points 𝓢 (suc d) (𝓢 .then s (c .event)) (c .left))
-          ∙ ap (front (c .event)) (counted-after d (c .left) j (points 𝓢 (suc d) (𝓢 .then s (c .event)) (c .left)) ∙ ap (after 𝓢 j) (literal d (𝓢 .then s (c .event)) (c .left)))
-          ∙ after-front j (c .event) (walked 𝓢 d (𝓢 .then s (c .event)) (c .left)))
+        counted-map d obs (c .left) (c .event) (child 𝓢 𝓛 s obs c m .uses) j (points 𝓢 (suc d) (𝓢 .then s (c .event)) (c .left))
+        ∙ ap (front (c .event)) (counted-after d (c .left) j (points 𝓢 (suc d) (𝓢 .then s (c .event)) (c .left)) ∙ ap (after 𝓢 j) (literal d (𝓢 .then s (c .event)) (c .left)))
+        ∙ after-front j (c .event) (walked 𝓢 d (𝓢 .then s (c .event)) (c .left)))

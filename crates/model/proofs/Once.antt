@@ -8,9 +8,10 @@ use Rattle.model.specs.Walk.{Once}
 -- two such lists with no member in common, one after the other
 pub once-append : {A : Type 0} (xs ys : List A) → Once xs → Once ys → ((x : A) → List·Memᴰ x xs → List·Memᴰ x ys → ⊥) → Once (xs ++ ys)
 once-append [] ys h k apart = k
-once-append (x ∷ xs) ys h k apart =
-    (λ m. ⊎-elim (h .0) (apart x (List·Memᴰ·head refl)) (List·Memᴰ·append-cases xs m),
-      once-append xs ys (h .1) k (λ y m. apart y (List·Memᴰ·tail m)))
+once-append (x ∷ xs) ys h k apart = (
+  λ m. ⊎-elim (h .0) (apart x (List·Memᴰ·head refl)) (List·Memᴰ·append-cases xs m),
+  once-append xs ys (h .1) k (λ y m. apart y (List·Memᴰ·tail m)),
+)
 
 -- such a list under a function that keeps members apart
 pub once-map : {A B : Type 0} (f : A → B) → ((x y : A) → f x ≡ f y → x ≡ y) → (xs : List A) → Once xs → Once (map f xs)

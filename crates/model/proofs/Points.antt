@@ -33,11 +33,11 @@ module _ {S O E : Type 0} (𝓢 : Service S O E) where
   under f (c ∷ cs) p m =
       ⊎-elim
       (λ h.
-        let r = Memᴰ·of-map (λ q. c .event ∷ q) (f c) h in
-        record { by = c; rest = r .0; among = List·Memᴰ·head refl; point = r .1; begins = sym (r .2) })
+      let r = Memᴰ·of-map (λ q. c .event ∷ q) (f c) h in
+      record { by = c; rest = r .0; among = List·Memᴰ·head refl; point = r .1; begins = sym (r .2) })
       (λ t.
-        let r = under f cs p t in
-        record { by = r .by; rest = r .rest; among = List·Memᴰ·tail (r .among); point = r .point; begins = r .begins })
+      let r = under f cs p t in
+      record { by = r .by; rest = r .rest; among = List·Memᴰ·tail (r .among); point = r .point; begins = r .begins })
       (List·Memᴰ·append-cases (map (λ q. c .event ∷ q) (f c)) m)
 
   is-under : (f : Choice O E → List (List E)) (cs : List (Choice O E)) (c : Choice O E) (p : List E) → List·Memᴰ c cs → List·Memᴰ p (f c)
@@ -47,8 +47,8 @@ module _ {S O E : Type 0} (𝓢 : Service S O E) where
   is-under f (b ∷ cs) c p m h =
       ⊎-elim
       (λ e.
-        Memᴰ·cast (ap (λ (x : Choice O E). x .event ∷ p) e)
-        (Memᴰ·append-left (below 𝓢 f cs) (Memᴰ·map (λ q. b .event ∷ q) (subst (λ (x : Choice O E). List·Memᴰ p (f x)) e h))))
+      Memᴰ·cast (ap (λ (x : Choice O E). x .event ∷ p) e)
+      (Memᴰ·append-left (below 𝓢 f cs) (Memᴰ·map (λ q. b .event ∷ q) (subst (λ (x : Choice O E). List·Memᴰ p (f x)) e h))))
       (λ t. Memᴰ·append-right (map (λ q. b .event ∷ q) (f b)) (is-under f cs c p t h))
       (List·Memᴰ·cases-cons m)
 
@@ -58,9 +58,9 @@ module _ {S O E : Type 0} (𝓢 : Service S O E) where
   once-below f (c ∷ cs) each h =
       once-append (map (λ q. c .event ∷ q) (f c)) (below 𝓢 f cs) (once-map (λ q. c .event ∷ q) (λ p q h. tail-eq-of-cons-eq h) (f c) (each c)) (once-below f cs each (h .1))
       (λ p m t.
-        let a = Memᴰ·of-map (λ q. c .event ∷ q) (f c) m in
-        let b = under f cs p t in
-        h .0 (Memᴰ·cast (head-eq-of-cons-eq (a .2 ∙ b .begins)) (Memᴰ·map (λ (x : Choice O E). x .event) (b .among))))
+      let a = Memᴰ·of-map (λ q. c .event ∷ q) (f c) m in
+      let b = under f cs p t in
+      h .0 (Memᴰ·cast (head-eq-of-cons-eq (a .2 ∙ b .begins)) (Memᴰ·map (λ (x : Choice O E). x .event) (b .among))))
 
   -- ---- the children's events differ
 
@@ -75,8 +75,8 @@ module _ {S O E : Type 0} (𝓢 : Service S O E) where
   once-possible s (c ∷ cs) h =
       once-kept (𝓢 .may s (c .event)) c (only-possible 𝓢 s cs)
       (λ m.
-        let r = Memᴰ·of-map (λ (x : Choice O E). x .event) (only-possible 𝓢 s cs) m in
-        h .0 (Memᴰ·cast (sym (r .2)) (Memᴰ·map (λ (x : Choice O E). x .event) (possible-in 𝓢 s cs (r .0) (r .1) .0))))
+      let r = Memᴰ·of-map (λ (x : Choice O E). x .event) (only-possible 𝓢 s cs) m in
+      h .0 (Memᴰ·cast (sym (r .2)) (Memᴰ·map (λ (x : Choice O E). x .event) (possible-in 𝓢 s cs (r .0) (r .1) .0))))
       (once-possible s cs (h .1))
 
   back : (obs : List O) (hs : List E) (e : E) → List·Memᴰ e (events (map (choice 𝓢 obs) hs)) → List·Memᴰ e hs
@@ -93,24 +93,26 @@ module _ {S O E : Type 0} (𝓢 : Service S O E) where
     once-choices : (obs : List O) → Once (events (choices 𝓢 obs))
     unfolding choices events
     once-choices [] = tt
-    once-choices (o ∷ obs) =
-        (λ m.
+    once-choices (o ∷ obs) = (
+      λ m.
           let u = 𝓛 .unseen (𝓢 .observed o) (back (o ∷ obs) (𝓢 .hidden) (𝓢 .observed o) m) in
           let v = 𝓛 .seen o in
           let z : _≡_ {A = ℕ} 0 1 = cc in omega arith,
-          once-choice (o ∷ obs) (𝓢 .hidden) (𝓛 .once))
+      once-choice (o ∷ obs) (𝓢 .hidden) (𝓛 .once),
+    )
 
     -- each point stands in the preorder once
     pub points-once : (d : ℕ) (s : S) (obs : List O) → Once (points 𝓢 d s obs)
     unfolding points children
     points-once zero s obs = (λ m. List·Memᴰ·not-nil m, tt)
-    points-once (suc d) s obs =
-        (λ m.
+    points-once (suc d) s obs = (
+      λ m.
           let r = under (λ c. points 𝓢 d (𝓢 .then s (c .event)) (c .left)) (children 𝓢 s obs) [] m in
           let b = r .begins in
           let z : _≡_ {A = ℕ} 0 1 = cc in omega arith,
-          once-below (λ c. points 𝓢 d (𝓢 .then s (c .event)) (c .left)) (children 𝓢 s obs)
-          (λ c. points-once d (𝓢 .then s (c .event)) (c .left)) (once-possible s (choices 𝓢 obs) (once-choices obs)))
+      once-below (λ c. points 𝓢 d (𝓢 .then s (c .event)) (c .left)) (children 𝓢 s obs)
+          (λ c. points-once d (𝓢 .then s (c .event)) (c .left)) (once-possible s (choices 𝓢 obs) (once-choices obs)),
+    )
 
     -- ---- what stands in the preorder is a point
 
@@ -122,7 +124,8 @@ module _ {S O E : Type 0} (𝓢 : Service S O E) where
           left = obs;
           used = refl;
           within = zero-le;
-          no-end-before = λ q e r h t. none q e r h }
+          no-end-before = λ q e r h t. none q e r h;
+        }
       where
         none : (q : List E) (e : E) (r : List E) → [] ≡ q ++ e ∷ r → ⊥
         none [] e r h = let z : _≡_ {A = ℕ} 0 1 = cc in omega arith
@@ -137,7 +140,8 @@ module _ {S O E : Type 0} (𝓢 : Service S O E) where
           left = x .left;
           used = append-assoc (𝓢 .shown (c .event)) (trace 𝓢 p) (x .left) ∙ ap (λ (l : List O). 𝓢 .shown (c .event) ++ l) (x .used) ∙ k .uses;
           within = suc-le-suc (x .within);
-          no-end-before = clear }
+          no-end-before = clear;
+        }
       where
         clear : (q : List E) (e : E) (r : List E) → c .event ∷ p ≡ q ++ e ∷ r → trace 𝓢 q ≡ obs → ⊥
         clear [] e r h t = k .no-end (sym t)
@@ -152,9 +156,9 @@ module _ {S O E : Type 0} (𝓢 : Service S O E) where
     is-point (suc d) s obs p m =
         ⊎-elim (λ e. subst (Point 𝓢 (suc d) s obs) (sym e) (root (suc d) s obs))
         (λ t.
-          let r = under (λ c. points 𝓢 d (𝓢 .then s (c .event)) (c .left)) (children 𝓢 s obs) p t in
-          subst (Point 𝓢 (suc d) s obs) (sym (r .begins))
-          (down d s obs (r .by) (r .rest) (child 𝓢 𝓛 s obs (r .by) (r .among)) (is-point d (𝓢 .then s (r .by .event)) (r .by .left) (r .rest) (r .point))))
+        let r = under (λ c. points 𝓢 d (𝓢 .then s (c .event)) (c .left)) (children 𝓢 s obs) p t in
+        subst (Point 𝓢 (suc d) s obs) (sym (r .begins))
+        (down d s obs (r .by) (r .rest) (child 𝓢 𝓛 s obs (r .by) (r .among)) (is-point d (𝓢 .then s (r .by .event)) (r .by .left) (r .rest) (r .point))))
         (List·Memᴰ·cases-cons m)
 
     -- ---- and every point stands there
@@ -169,8 +173,9 @@ module _ {S O E : Type 0} (𝓢 : Service S O E) where
           used = h;
           within = le-of-suc-le-suc (x .within);
           no-end-before =
-            λ q a r b t. x .no-end-before (e ∷ q) a r (ap (λ (l : List E). e ∷ l) b)
-            (ap (λ (y : E). 𝓢 .shown y ++ trace 𝓢 q) (sym ev) ∙ ap (λ (l : List O). 𝓢 .shown (c .event) ++ l) t ∙ u) }
+              λ q a r b t. x .no-end-before (e ∷ q) a r (ap (λ (l : List E). e ∷ l) b)
+              (ap (λ (y : E). 𝓢 .shown y ++ trace 𝓢 q) (sym ev) ∙ ap (λ (l : List O). 𝓢 .shown (c .event) ++ l) t ∙ u);
+        }
 
     pub point-is : (d : ℕ) (s : S) (obs : List O) (p : List E) → Point 𝓢 d s obs p → List·Memᴰ p (points 𝓢 d s obs)
     unfolding points trace possible
@@ -179,7 +184,7 @@ module _ {S O E : Type 0} (𝓢 : Service S O E) where
     point-is (suc d) s obs [] x = List·Memᴰ·head refl
     point-is (suc d) s obs (e ∷ p) x =
         let a = a-child 𝓢 𝓛 s obs e (trace 𝓢 p ++ x .left) (and-true (𝓢 .may s e) (possible 𝓢 (𝓢 .then s e) p) (x .each-possible) .0)
-              (sym (append-assoc (𝓢 .shown e) (trace 𝓢 p) (x .left)) ∙ x .used) (λ z. x .no-end-before [] e p refl (sym z)) in
+        (sym (append-assoc (𝓢 .shown e) (trace 𝓢 p) (x .left)) ∙ x .used) (λ z. x .no-end-before [] e p refl (sym z)) in
         Memᴰ·cast (ap (λ (y : E). y ∷ p) (sym (a .2)))
         (List·Memᴰ·tail
         (is-under (λ c. points 𝓢 d (𝓢 .then s (c .event)) (c .left)) (children 𝓢 s obs) (a .0) p (a .1)

@@ -72,7 +72,8 @@ module _ {S O E : Type 0} (𝓢 : Service S O E) where
     step s obs c es k x =
         record {
           each-possible = ap (λ (b : Bool). b && possible 𝓢 (𝓢 .then s (c .event)) es) (k .happens) ∙ x .each-possible;
-          is-trace = ap (λ (l : List O). 𝓢 .shown (c .event) ++ l) (x .is-trace) ∙ k .uses }
+          is-trace = ap (λ (l : List O). 𝓢 .shown (c .event) ++ l) (x .is-trace) ∙ k .uses;
+        }
 
     visited-found : (f : Choice O E → Walked E) (s : S) (obs : List O) (k : ℕ) (es : List E)
         → ((c : Choice O E) (j : ℕ) (r : List E) → f c ≡ found j r → Explains 𝓢 (𝓢 .then s (c .event)) (c .left) r)

@@ -27,11 +27,13 @@ staled-more set keep left next h ne r =
       below = remove-below 8 left next (r .below);
       few = omega arith;
       gone =
-        λ i l e. elim (ℕ-discrete i next) [
-          yes q ↦ ap (has (remove 8 left next)) q ∙ has-remove-same 8 left next h
-        | no q ↦ has-remove-other 8 left next i q ∙ r .gone i (omega arith) e ];
+          λ i l e. elim (ℕ-discrete i next) [
+            | yes q ↦ ap (has (remove 8 left next)) q ∙ has-remove-same 8 left next h
+            | no q ↦ has-remove-other 8 left next i q ∙ r .gone i (omega arith) e
+          ];
       kept = has-remove-other 8 left next keep (λ q. ne (sym q)) ∙ r .kept;
-      later = λ i l. has-remove-other 8 left next i (λ q. omega arith) ∙ r .later i (omega arith) }
+      later = λ i l. has-remove-other 8 left next i (λ q. omega arith) ∙ r .later i (omega arith);
+    }
 
 pub staled-kept : (set keep left next : ℕ) → next < 8 → next ≡ keep → Staled set keep left next → Staled set keep left (next + 1)
 staled-kept set keep left next h q r =
@@ -40,11 +42,13 @@ staled-kept set keep left next h q r =
       few = omega arith;
       gone = λ i l e. r .gone i (elim (ℕ-discrete i next) [ yes p ↦ absurd (e (p ∙ q)) | no p ↦ omega arith ]) e;
       kept = r .kept;
-      later = λ i l. r .later i (omega arith) }
+      later = λ i l. r .later i (omega arith);
+    }
 
 pub staled-all : (set keep left next : ℕ) → set < 2 ^ 8 → 8 ≤ next → Staled set keep left next → left ≡ only set keep
 staled-all set keep left next b h r =
     same-set 8 left (only set keep) (r .below) (only-below 8 set keep b)
     (λ i l. elim (ℕ-discrete i keep) [
-      yes q ↦ ap (has left) q ∙ r .kept ∙ sym (has-only-same set keep) ∙ ap (has (only set keep)) (sym q)
-    | no q ↦ r .gone i (omega arith) q ∙ sym (has-only-other set keep i q) ])
+      | yes q ↦ ap (has left) q ∙ r .kept ∙ sym (has-only-same set keep) ∙ ap (has (only set keep)) (sym q)
+      | no q ↦ r .gone i (omega arith) q ∙ sym (has-only-other set keep i q)
+    ])

@@ -14,7 +14,8 @@ module _ {S O E : Type 0} (𝓢 : Service S O E) where
   onward s obs e es h x =
       record {
         each-possible = ap (λ (b : Bool). b && possible 𝓢 (𝓢 .then s e) es) h ∙ x .each-possible;
-        is-trace = ap (λ (l : List O). 𝓢 .shown e ++ l) (x .is-trace) }
+        is-trace = ap (λ (l : List O). 𝓢 .shown e ++ l) (x .is-trace);
+      }
 
   module _ (𝓛 : Lawful 𝓢) where
     -- what explains a trace explains, up to some place, each shorter one
@@ -27,14 +28,14 @@ module _ {S O E : Type 0} (𝓢 : Service S O E) where
         let q = and-true (𝓢 .may s e) (possible 𝓢 (𝓢 .then s e) es) (x .each-possible) in
         ⊎-elim
         (λ k.
-          let sees : 𝓢 .shown e ≡ (k .0) ∷ [] = ap (𝓢 .shown) (k .1) ∙ 𝓛 .seen (k .0) in
-          let same : (k .0) ∷ trace 𝓢 es ≡ o ∷ (obs ++ more) = ap (λ (l : List O). l ++ trace 𝓢 es) (sym sees) ∙ x .is-trace in
-          let r = shorter es (𝓢 .then s e) obs more (record { each-possible = q .1; is-trace = tail-eq-of-cons-eq same }) in
-          (e ∷ r .0, subst (λ (l : List O). Explains 𝓢 s l (e ∷ r .0)) (ap (λ (l : List O). l ++ obs) sees ∙ ap (λ (y : O). y ∷ obs) (head-eq-of-cons-eq same)) (onward s obs e (r .0) (q .0) (r .1))))
+        let sees : 𝓢 .shown e ≡ (k .0) ∷ [] = ap (𝓢 .shown) (k .1) ∙ 𝓛 .seen (k .0) in
+        let same : (k .0) ∷ trace 𝓢 es ≡ o ∷ (obs ++ more) = ap (λ (l : List O). l ++ trace 𝓢 es) (sym sees) ∙ x .is-trace in
+        let r = shorter es (𝓢 .then s e) obs more (record { each-possible = q .1; is-trace = tail-eq-of-cons-eq same }) in
+        (e ∷ r .0, subst (λ (l : List O). Explains 𝓢 s l (e ∷ r .0)) (ap (λ (l : List O). l ++ obs) sees ∙ ap (λ (y : O). y ∷ obs) (head-eq-of-cons-eq same)) (onward s obs e (r .0) (q .0) (r .1))))
         (λ m.
-          let hides = 𝓛 .unseen e m in
-          let r = shorter es (𝓢 .then s e) (o ∷ obs) more (record { each-possible = q .1; is-trace = ap (λ (l : List O). l ++ trace 𝓢 es) (sym hides) ∙ x .is-trace }) in
-          (e ∷ r .0, subst (λ (l : List O). Explains 𝓢 s l (e ∷ r .0)) (ap (λ (l : List O). l ++ o ∷ obs) hides) (onward s (o ∷ obs) e (r .0) (q .0) (r .1))))
+        let hides = 𝓛 .unseen e m in
+        let r = shorter es (𝓢 .then s e) (o ∷ obs) more (record { each-possible = q .1; is-trace = ap (λ (l : List O). l ++ trace 𝓢 es) (sym hides) ∙ x .is-trace }) in
+        (e ∷ r .0, subst (λ (l : List O). Explains 𝓢 s l (e ∷ r .0)) (ap (λ (l : List O). l ++ o ∷ obs) hides) (onward s (o ∷ obs) e (r .0) (q .0) (r .1))))
         (𝓛 .known s e (q .0))
 
     -- a trace with no explanation has none after further observations

@@ -101,7 +101,8 @@ then s (Observed (Write t y x)) =
       local = set (s .local) (seat t) y;
       server = s .server;
       fresh = s .fresh;
-      dirty = add 8 (s .dirty) (seat t) }
+      dirty = add 8 (s .dirty) (seat t);
+    }
 then s (Observed (Stabilize x c)) = s
 then s (Observed Failed) = s
 then s (Up t) =
@@ -110,14 +111,16 @@ then s (Up t) =
       local = s .local;
       server = cond (wins s t) (local-of s t) (s .server);
       fresh = cond (wins s t) (only (s .fresh) (seat t)) (s .fresh);
-      dirty = remove 8 (s .dirty) (seat t) }
+      dirty = remove 8 (s .dirty) (seat t);
+    }
 then s (Down t) =
     record {
       conflicts = s .conflicts;
       local = set (s .local) (seat t) (s .server);
       server = s .server;
       fresh = add 8 (s .fresh) (seat t);
-      dirty = s .dirty }
+      dirty = s .dirty;
+    }
 
 -- ---- the service: READ, WRITE and both kinds of STABILIZE are observed, UP and DOWN are hidden
 

@@ -39,10 +39,11 @@ loop-less c = omega arith
 
 loop-again : tie.Need-loop-again Inv-loop μ-loop
 unfolding fresh-and-clean
-loop-again c =
-    (cc (every-more (fresh-and-clean (c .before .before .before .before .before .args .state)) (c .before .before .before .loop .passed)),
-      omega arith,
-      omega arith)
+loop-again c = (
+  cc (every-more (fresh-and-clean (c .before .before .before .before .before .args .state)) (c .before .before .before .loop .passed)),
+  omega arith,
+  omega arith,
+)
 
 returns : tie.Need-returns Inv-loop μ-loop
 unfolding settled

@@ -1,0 +1,19 @@
+-- `model::events::may_read` meets its contract: its answers, joined, are the row of the table.
+-- Assumes nothing.
+use borrow.Author.Needs.{needs}
+use Rattle.model.specs.Model.{may}
+use Rattle.model.proofs.events.may_read.Statement.{statement}
+use Rattle.model.proofs.events.may_read.Tie as tie
+
+tablet-of-requires : tie.Need-tablet-of-requires
+tablet-of-requires c κs = search needs
+
+local-value-requires : tie.Need-local-value-requires
+local-value-requires c κs = search needs
+
+returns : tie.Need-returns
+unfolding may
+returns c = cc
+
+pub may-read-spec : {M : Type 1} → statement M
+may-read-spec = tie.close (tie.spec tablet-of-requires local-value-requires returns)
