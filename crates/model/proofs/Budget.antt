@@ -3,7 +3,7 @@
 use mathlib.Core.Bool.{Bool, true, false, cond}
 use mathlib.Core.List.{List}
 use mathlib.Core.Path.{_≡_, refl, sym, ap, _∙_, subst}
-use Prim.Native.Nat.{ℕ, _≤_, _<_}
+use Prim.Native.Nat.{ℕ, suc, _≤_, _<_}
 use native.Mathlib.Nat.{le-trans, lt-of-lt-of-le}
 use native.Mathlib.Omega.{arith}
 use lib.Dec.{leb, ltb}
@@ -63,3 +63,10 @@ module _ {E : Type 0} where
   repeats b c (found k es) l d = let h = afforded b (found k es) d .0 in kept-found c k es (le-trans h l) ∙ sym (kept-found b k es h)
   repeats b c (endless k) l d = let h = afforded b (endless k) d .0 in kept-endless c k (le-trans h l) ∙ sym (kept-endless b k h)
   repeats b c (stopped k) l d = absurd (afforded b (stopped k) d .1)
+
+  -- a budget of 0 is undecided, since the root is a point
+  pub none-for-nothing : (w : Walked E) → 0 < needed w → cut 0 w ≡ undecided 0
+  unfolding needed cut
+  none-for-nothing (found k es) h = spent 0 (found k es) tt h
+  none-for-nothing (endless k) h = spent 0 (endless k) tt h
+  none-for-nothing (stopped k) h = ap (λ (t : Bool). cond t too-deep (undecided 0)) (lt-leb (suc k) 0 (omega arith))

@@ -1,3 +1,4 @@
+pub mod Answers
 pub mod Budget
 pub mod Children
 pub mod Evenings
@@ -5,8 +6,9 @@ pub mod Lawful
 pub mod Literal
 pub mod Once
 pub mod Points
-pub mod Sound
-pub mod Traces
 pub mod Settled
+pub mod Sound
 pub mod Stale
+pub mod Theorems
+pub mod Traces
 pub mod Upload

@@ -4,9 +4,9 @@ use mathlib.Core.Bool.{Bool, true, false, _&&_}
 use mathlib.Core.List.{List, [], _∷_, _++_, List·Memᴰ, List·Memᴰ·head, List·Memᴰ·tail, List·Memᴰ·cases-cons, List·Memᴰ·not-nil}
 use mathlib.Core.Logic.{_⊎_, inl, inr, ⊎-elim}
 use mathlib.Core.Path.{_≡_, refl, sym, ap, _∙_, subst}
-use Prim.Native.Nat.{ℕ, zero, suc}
+use Prim.Native.Nat.{ℕ, zero, suc, _<_}
 use native.Mathlib.Omega.{arith}
-use Rattle.model.specs.Walk.{Service, Lawful, Choice, Explains, possible, trace, children, choices, Walked, found, endless, stopped, after, or-else, tried, visited, walked}
+use Rattle.model.specs.Walk.{Service, Lawful, Choice, Explains, possible, trace, children, choices, Walked, found, endless, stopped, after, or-else, tried, visited, walked, needed}
 use Rattle.model.proofs.Children.{Child, child, a-child}
 
 pub and-true : (a b : Bool) → (a && b) ≡ true → (a ≡ true) × (b ≡ true)
@@ -63,6 +63,23 @@ module _ {S O E : Type 0} (𝓢 : Service S O E) where
           (λ t. let r = after-endless j k (tried 𝓢 f cs) g in ih (r .0) (r .1) c t)
           (List·Memᴰ·cases-cons m)
       go ih (stopped j) e g = let z : _≡_ {A = ℕ} 0 1 = cc in absurd (omega arith)
+
+  -- the root is a point
+  after-some : (k : ℕ) (w : Walked E) → 0 < k → 0 < needed (after 𝓢 k w)
+  unfolding after needed
+  after-some k (found j es) h = omega arith
+  after-some k (endless j) h = omega arith
+  after-some k (stopped j) h = omega arith
+
+  visited-some : (f : Choice O E → Walked E) (s : S) (obs : List O) → 0 < needed (visited 𝓢 f s obs)
+  unfolding visited needed
+  visited-some f s [] = omega arith
+  visited-some f s (o ∷ obs) = after-some 1 (tried 𝓢 f (children 𝓢 s (o ∷ obs))) (omega arith)
+
+  pub some-point : (d : ℕ) (s : S) (obs : List O) → 0 < needed (walked 𝓢 d s obs)
+  unfolding walked
+  some-point zero s obs = visited-some (λ c. stopped 0) s obs
+  some-point (suc d) s obs = visited-some (λ c. walked 𝓢 d (𝓢 .then s (c .event)) (c .left)) s obs
 
   module _ (𝓛 : Lawful 𝓢) where
     -- a child's explanation is one of its parent, with the child's event in front

@@ -29,6 +29,16 @@ one-of-two s t h =
     let f = and-true (fresh-at s t) (not (eqb (local-of s t) (s .server))) h in
     ap (λ (b : Bool). not b && (not (eqb (local-of s t) (s .server)) && not (eqb (local-of s t) 0))) (f .0)
 
+-- the tests as the code makes them
+pub wins-by : (s : State) (t : ℕ) (fresh b : Bool) (v : ℕ) → fresh ≡ fresh-at s t → v ≡ local-of s t → (fresh && not (eqb v (s .server))) ≡ b → wins s t ≡ b
+unfolding wins
+wins-by s t fresh b v p q h = rw (← p, ← q) h
+
+pub joins-by : (s : State) (t : ℕ) (fresh b : Bool) (v : ℕ) → fresh ≡ fresh-at s t → v ≡ local-of s t
+    → (not fresh && (not (eqb v (s .server)) && not (eqb v 0))) ≡ b → joins s t ≡ b
+unfolding joins
+joins-by s t fresh b v p q h = rw (← p, ← q) h
+
 pub won : (s : State) (t : ℕ) → wins s t ≡ true → then s (Up t) ≡ uploaded s t (s .conflicts) (local-of s t) (only (s .fresh) (seat t))
 won s t h = by-tests s t true false h (one-of-two s t h)
 

@@ -37,31 +37,37 @@ tablets n = up-to (seats n)
 unfoldable pub seat : ℕ → ℕ
 seat t = cond (eqb t 0) 255 (t - 1)
 
+-- what stands for tablet t in a row of values, and in a set of marks
+unfoldable pub value-at : List ℕ → ℕ → ℕ
+unfolding seat
+value-at row t = getD row (seat t) 0
+
+unfoldable pub mark-at : ℕ → ℕ → Bool
+unfolding seat
+mark-at set t = has set (seat t)
+
 -- a tablet's local value, and whether it is fresh, and dirty; stale is not fresh, and clean is not dirty
-unfoldable pub local-of : State → ℕ → ℕ
-unfolding seat
-local-of s t = getD (s .local) (seat t) 0
+abbrev pub local-of : State → ℕ → ℕ
+local-of s t = value-at (s .local) t
 
-unfoldable pub fresh-at : State → ℕ → Bool
-unfolding seat
-fresh-at s t = has (s .fresh) (seat t)
+abbrev pub fresh-at : State → ℕ → Bool
+fresh-at s t = mark-at (s .fresh) t
 
-unfoldable pub dirty-at : State → ℕ → Bool
-unfolding seat
-dirty-at s t = has (s .dirty) (seat t)
-
-unfoldable pub fresh-and-clean : State → ℕ → Bool
-unfolding fresh-at dirty-at
-fresh-and-clean s t = fresh-at s t && not (dirty-at s t)
+abbrev pub dirty-at : State → ℕ → Bool
+dirty-at s t = mark-at (s .dirty) t
 
 -- every tablet is fresh and clean
 unfoldable pub every : (ℕ → Bool) → List ℕ → Bool
 every p [] = true
 every p (t ∷ ts) = p t && every p ts
 
-unfoldable pub settled : ℕ → State → Bool
+unfoldable pub fresh-and-clean : ℕ → ℕ → ℕ → Bool
+unfolding mark-at
+fresh-and-clean fresh dirty t = mark-at fresh t && not (mark-at dirty t)
+
+unfoldable pub all-fresh-and-clean : ℕ → ℕ → ℕ → Bool
 unfolding every fresh-and-clean tablets
-settled n s = every (fresh-and-clean s) (tablets n)
+all-fresh-and-clean n fresh dirty = every (fresh-and-clean fresh dirty) (tablets n)
 
 -- ---- the first state: all values 0, conflict set empty, all tablets fresh and clean
 
@@ -73,27 +79,27 @@ first-state n = record { conflicts = 0; local = replicate 8 0; server = 0; fresh
 
 -- Whether an event may happen. The last line of a WRITE's row says that there are 64 values: no sheet has another.
 unfoldable pub may : ℕ → State → Event → Bool
-unfolding is-tablet local-of fresh-at dirty-at settled
+unfolding is-tablet value-at mark-at all-fresh-and-clean
 may n s (Observed (Read t x)) = is-tablet n t && eqb (local-of s t) x
 may n s (Observed (Write t y x)) = is-tablet n t && (ltb y 64 && eqb (local-of s t) x)
-may n s (Observed (Stabilize x c)) = eqb (s .server) x && (eqb (s .conflicts) c && settled n s)
+may n s (Observed (Stabilize x c)) = eqb (s .server) x && (eqb (s .conflicts) c && all-fresh-and-clean n (s .fresh) (s .dirty))
 may n s (Observed Failed) = false
 may n s (Up t) = is-tablet n t && dirty-at s t
 may n s (Down t) = is-tablet n t && (not (fresh-at s t) && not (dirty-at s t))
 
 -- UP at a fresh tablet whose local value differs from the server's: the server takes it
 unfoldable pub wins : State → ℕ → Bool
-unfolding local-of fresh-at
+unfolding value-at mark-at
 wins s t = fresh-at s t && not (eqb (local-of s t) (s .server))
 
 -- UP at a stale tablet whose local value is neither the server's nor 0: it joins the conflict set
 unfoldable pub joins : State → ℕ → Bool
-unfolding local-of fresh-at
+unfolding value-at mark-at
 joins s t = not (fresh-at s t) && (not (eqb (local-of s t) (s .server)) && not (eqb (local-of s t) 0))
 
 -- What then holds.
 unfoldable pub then : State → Event → State
-unfolding seat local-of wins joins
+unfolding seat value-at wins joins
 then s (Observed (Read t x)) = s
 then s (Observed (Write t y x)) =
     record {

@@ -1,8 +1,7 @@
 // The synchroniser: its state, the observations and events, when each event may happen and what then holds. Document 01's
 // table of events is the definition `may` and `then` in specs/Model.antt, which every contract here cites.
-
 pub mod events;
-pub mod tablets;
+mod tablets;
 
 // What the service and its tablets hold. Wide fields first: 24 bytes.
 pub struct State {

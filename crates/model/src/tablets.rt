@@ -1,9 +1,8 @@
 // One tablet's part of a state, and what is asked or done of all tablets. A number that is no tablet's has the local value
 // 0 and no marks.
-use crate::State;
 ghost use mathlib.Core.Path.{_≡_};
 ghost use Rattle.marks.specs.Sets.{only};
-ghost use Rattle.model.specs.Model.{seats, seat, is-tablet, local-of, fresh-at, dirty-at, settled, first-state};
+ghost use Rattle.model.specs.Model.{seats, seat, is-tablet, value-at, mark-at, all-fresh-and-clean};
 
 // How many tablets there are: no more than 8.
 pub fn seats_of(n: u8) -> u8
@@ -27,25 +26,18 @@ pub fn tablet_of(n: u8, tablet: u8) -> bool
 }
 
 // The local value of a tablet.
-pub fn local_value(state: State, tablet: u8) -> u8
-    ensures { λ r. ⌜ r ≡ local-of state tablet ⌝ }
+pub fn local_value(local: [u8; 8], tablet: u8) -> u8
+    ensures { λ r. ⌜ r ≡ value-at local tablet ⌝ }
 {
     let at = seat_of(tablet) as usize;
-    if at < 8 { state.local[at] } else { 0 }
+    if at < 8 { local[at] } else { 0 }
 }
 
-// Whether a tablet is fresh.
-pub fn is_fresh(state: State, tablet: u8) -> bool
-    ensures { λ r. ⌜ r ≡ fresh-at state tablet ⌝ }
+// Whether a tablet has its mark in a set.
+pub fn marked(set: u8, tablet: u8) -> bool
+    ensures { λ r. ⌜ r ≡ mark-at set tablet ⌝ }
 {
-    marks::has8(state.fresh, seat_of(tablet))
-}
-
-// Whether a tablet is dirty.
-pub fn is_dirty(state: State, tablet: u8) -> bool
-    ensures { λ r. ⌜ r ≡ dirty-at state tablet ⌝ }
-{
-    marks::has8(state.dirty, seat_of(tablet))
+    marks::has8(set, seat_of(tablet))
 }
 
 // The fresh marks once every tablet but this one has become stale, one tablet after the other.
@@ -65,30 +57,15 @@ pub fn others_stale(fresh: u8, tablet: u8) -> u8
 }
 
 // Whether every tablet is fresh and clean, asked of one tablet after the other.
-pub fn all_settled(n: u8, state: State) -> bool
-    ensures { λ r. ⌜ r ≡ settled n state ⌝ }
+pub fn all_settled(n: u8, fresh: u8, dirty: u8) -> bool
+    ensures { λ r. ⌜ r ≡ all-fresh-and-clean n fresh dirty ⌝ }
 {
     let count = seats_of(n);
     let mut so_far = true;
     let mut passed = 0u8;
     while passed < count {
         passed += 1;
-        so_far = so_far & (is_fresh(state, passed) & !is_dirty(state, passed));
+        so_far = so_far & (marked(fresh, passed) & !marked(dirty, passed));
     }
     so_far
-}
-
-// The first state: all values 0, no conflicts, all tablets fresh and clean.
-pub fn first(n: u8) -> State
-    ensures { λ r. ⌜ r ≡ first-state n ⌝ }
-{
-    let count = seats_of(n);
-    let fresh = if count < 8 { (1u8 << count) - 1 } else { 255 };
-    State {
-        conflicts: 0,
-        local: [0u8; 8],
-        server: 0,
-        fresh,
-        dirty: 0,
-    }
 }

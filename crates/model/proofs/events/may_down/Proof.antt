@@ -8,15 +8,15 @@ use Rattle.model.proofs.events.may_down.Tie as tie
 tablet-of-requires : tie.Need-tablet-of-requires
 tablet-of-requires c κs = search needs
 
-is-fresh-requires : tie.Need-is-fresh-requires
-is-fresh-requires c κs = search needs
+marked-requires : tie.Need-marked-requires
+marked-requires c κs = search needs
 
-is-dirty-requires : tie.Need-is-dirty-requires
-is-dirty-requires c κs = search needs
+marked-requires-2 : tie.Need-marked-requires-2
+marked-requires-2 c κs = search needs
 
 returns : tie.Need-returns
 unfolding may
-returns c = cc
+returns c = rw (c .before .before .tablet-of .ensures, c .before .marked .ensures, c .marked2 .ensures)
 
 pub may-down-spec : {M : Type 1} → statement M
-may-down-spec = tie.close (tie.spec tablet-of-requires is-fresh-requires is-dirty-requires returns)
+may-down-spec = tie.close (tie.spec tablet-of-requires marked-requires marked-requires-2 returns)

@@ -1,16 +1,15 @@
 -- `model::events::may_stabilize` meets its contract: its answers, joined, are the row of the table.
 -- Assumes nothing.
-use borrow.Author.Needs.{needs}
 use Rattle.model.specs.Model.{may}
 use Rattle.model.proofs.events.may_stabilize.Statement.{statement}
 use Rattle.model.proofs.events.may_stabilize.Tie as tie
 
 all-settled-requires : tie.Need-all-settled-requires
-all-settled-requires c κs = search needs
+all-settled-requires c κs = tt
 
 returns : tie.Need-returns
 unfolding may
-returns c = cc
+returns c = rw (c .before .before .all-settled .ensures)
 
 pub may-stabilize-spec : {M : Type 1} → statement M
 may-stabilize-spec = tie.close (tie.spec all-settled-requires returns)

@@ -8,12 +8,12 @@ use Rattle.model.proofs.events.may_up.Tie as tie
 tablet-of-requires : tie.Need-tablet-of-requires
 tablet-of-requires c κs = search needs
 
-is-dirty-requires : tie.Need-is-dirty-requires
-is-dirty-requires c κs = search needs
+marked-requires : tie.Need-marked-requires
+marked-requires c κs = search needs
 
 returns : tie.Need-returns
 unfolding may
-returns c = cc
+returns c = rw (c .before .tablet-of .ensures, c .marked .ensures)
 
 pub may-up-spec : {M : Type 1} → statement M
-may-up-spec = tie.close (tie.spec tablet-of-requires is-dirty-requires returns)
+may-up-spec = tie.close (tie.spec tablet-of-requires marked-requires returns)

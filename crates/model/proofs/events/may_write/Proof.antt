@@ -13,7 +13,7 @@ local-value-requires c κs = search needs
 
 returns : tie.Need-returns
 unfolding may
-returns c = cc
+returns c = rw (c .before .tablet-of .ensures, c .local-value .ensures)
 
 pub may-write-spec : {M : Type 1} → statement M
 may-write-spec = tie.close (tie.spec tablet-of-requires local-value-requires returns)

@@ -23,13 +23,13 @@ element-write-next c = search needs
 
 returns : tie.Need-returns
 unfolding then
-returns c = cc
+returns c = rw (c .before .add8 .ensures, c .before .before .seat-of .ensures)
 
 returns-2 : tie.Need-returns-2
 unfolding then
 returns-2 c =
     let row : length (c .before .before .before .args .state .local) ≡ 8 = search needs in
-    cc (set-out (c .before .before .before .args .state .local) (seat (c .before .before .before .args .tablet)) (c .before .before .before .args .state .server) (omega arith))
+    rw (c .before .add8 .ensures, c .before .before .seat-of .ensures, set-out (c .before .before .before .args .state .local) (seat (c .before .before .before .args .tablet)) (c .before .before .before .args .state .server) (omega arith))
 
 pub then-down-spec : {M : Type 1} → statement M
 then-down-spec =

@@ -4,7 +4,7 @@ use borrow.Author.Needs.{needs}
 use mathlib.Core.Path.{_≡_}
 use native.Mathlib.Omega.{arith}
 use lib.ListN.{length, List·getD-eq-default}
-use Rattle.model.specs.Model.{local-of, seat}
+use Rattle.model.specs.Model.{value-at, seat}
 use Rattle.model.proofs.tablets.local_value.Statement.{statement}
 use Rattle.model.proofs.tablets.local_value.Tie as tie
 
@@ -14,18 +14,19 @@ seat-of-requires c κs = search needs
 cast-at : tie.Need-cast-at
 cast-at c = search needs
 
-element-copy-out-result : tie.Need-element-copy-out-result
-element-copy-out-result c = search needs
+array-read-result : tie.Need-array-read-result
+array-read-result c = search needs
 
 returns : tie.Need-returns
-unfolding local-of
-returns c = cc
+unfolding value-at
+returns c = rw (c .before .seat-of .ensures)
 
 returns-2 : tie.Need-returns-2
-unfolding local-of
+unfolding value-at
 returns-2 c =
-    let row : length (c .before .before .args .t1 .local) ≡ 8 = search needs in
-    rw (List·getD-eq-default (c .before .before .args .t1 .local) 0 {n = seat (c .before .before .args .tablet)} (omega arith))
+    let row : length (c .before .before .args .t1) ≡ 8 = search needs in
+    rw (List·getD-eq-default (c .before .before .args .t1) 0 {n = seat (c .before .before .args .tablet)} (omega arith))
 
 pub local-value-spec : {M : Type 1} → statement M
-local-value-spec = tie.close (tie.spec seat-of-requires cast-at element-copy-out-result returns returns-2)
+local-value-spec =
+    tie.close (tie.spec seat-of-requires cast-at array-read-result returns returns-2)

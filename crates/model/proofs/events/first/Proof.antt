@@ -1,4 +1,4 @@
--- `model::tablets::first` meets its contract: the marks of all seats are the full set.
+-- `model::events::first` meets its contract: the marks of all seats are the full set.
 -- Assumes nothing.
 use borrow.Author.Needs.{needs}
 use mathlib.Core.Path.{_≡_, _∙_}
@@ -9,8 +9,8 @@ use lib.Dec.{lit<}
 use lib.Pow.{pow-pos, shl-exact}
 use Rattle.marks.specs.Sets.{full}
 use Rattle.model.specs.Model.{first-state, seats}
-use Rattle.model.proofs.tablets.first.Statement.{statement}
-use Rattle.model.proofs.tablets.first.Tie as tie
+use Rattle.model.proofs.events.first.Statement.{statement}
+use Rattle.model.proofs.events.first.Tie as tie
 
 -- a bit within the width is not shifted out
 one-shifted : (k : ℕ) → k < 8 → 1 * 2 ^ k % 256 ≡ 2 ^ k
