@@ -1,14 +1,11 @@
-pub mod Answers
 pub mod Budget
 pub mod Children
+pub mod Errors
 pub mod Evenings
 pub mod Lawful
 pub mod Literal
 pub mod Once
 pub mod Points
-pub mod Settled
 pub mod Sound
-pub mod Stale
 pub mod Theorems
 pub mod Traces
-pub mod Upload

@@ -1,7 +1,5 @@
-// The synchroniser: its state, the observations and events, when each event may happen and what then holds. Document 01's
-// table of events is the definition `may` and `then` in specs/Model.antt, which every contract here cites.
-pub mod events;
-mod tablets;
+// The synchroniser: its state, the observations and the events. When an event may happen and what then holds, what an
+// explanation is, and the ordered walk are definitions, in specs/; what is true of them stands in proofs/Theorems.antt.
 
 // What the service and its tablets hold. Wide fields first: 24 bytes.
 pub struct State {

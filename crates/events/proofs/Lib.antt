@@ -1,0 +1,4 @@
+pub mod Answers
+pub mod Settled
+pub mod Stale
+pub mod Upload
