@@ -4,6 +4,7 @@ use crate::Refusal;
 use records::read_record;
 use records::row_kept;
 ghost use mathlib.Core.Path.{_≡_};
+ghost use Prim.Native.Nat.{_<_};
 ghost use Rattle.records.specs.Bytes.{byte, number};
 ghost use Rattle.tracefile.specs.Refusals.{told};
 ghost use Rattle.tracefile.specs.File.{head, contents, records};
@@ -17,7 +18,7 @@ pub fn byte_at(file: &[u8], at: usize) -> u8
 
 // The number in the two bytes at a place, least byte first.
 pub fn number2(file: &[u8], at: u32) -> u32
-    ensures { λ r. ⌜ r ≡ number (now (file .entry)) at 2 ⌝ }
+    ensures { λ r. ⌜ (r ≡ number (now (file .entry)) at 2) × (r < 65536) ⌝ }
 {
     let low = at as usize;
     let first = byte_at(file, low) as u32;
