@@ -1,2 +1,4 @@
+pub mod Answers
 pub mod Good
 pub mod Loops
+pub mod Worked
