@@ -14,6 +14,8 @@ use Rattle.marks.proofs.add64.Kinds as add64-kinds
 use Rattle.marks.proofs.add64.Reads as add64-reads
 use Rattle.marks.proofs.remove64.Kinds as remove64-kinds
 use Rattle.marks.proofs.remove64.Reads as remove64-reads
+use Rattle.marks.proofs.lowest64.Kinds as lowest64-kinds
+use Rattle.marks.proofs.lowest64.Reads as lowest64-reads
 use Rattle.marks.proofs.Single.{Single}
 
 has8 : Single 0 has8-kinds.ps has8-kinds.r has8-reads.Learnt
@@ -33,3 +35,6 @@ add64 κs a x y e f p q = p ∙ sym q
 
 remove64 : Single 0 remove64-kinds.ps remove64-kinds.r remove64-reads.Learnt
 remove64 κs a x y e f p q = p ∙ sym q
+
+lowest64 : Single 0 lowest64-kinds.ps lowest64-kinds.r lowest64-reads.Learnt
+lowest64 κs a x y e f p q = p ∙ sym q

@@ -1,18 +1,19 @@
 -- The laws of sets held as the bits of one number, each over every width at once: what is in a set after an operation, how
 -- large the number is, that two sets with the same members are one, and what the machine's shifts come to. Assumes nothing.
 use mathlib.Core.Path.{_≡_, refl, sym, ap, _∙_}
-use mathlib.Core.Bool.{Bool, true, false, cond, _&&_, _||_, xor, and-true, and-false, or-true, or-false}
-use Prim.Native.Nat.{ℕ, zero, suc, _*_, _/_, _%_, _^_, _≤_, _<_}
+use mathlib.Core.Bool.{Bool, true, false, cond, _&&_, _||_, xor, true≢false, and-true, and-false, or-true, or-false}
+use Prim.Native.Nat.{ℕ, zero, suc, _+_, _*_, _/_, _%_, _^_, _≤_, _<_}
 use native.Mathlib.Nat.{lt-of-le-of-lt, lt-of-lt-of-le, one-mul, div-one, div-self, div-eq-of-lt, mod-eq-of-lt, zero-div}
-use native.Mathlib.Decide.{decLt}
+use native.Mathlib.Decide.{decLt, ℕ-discrete}
 use native.Mathlib.Numerals.{add-one, one-add}
 use native.Mathlib.Omega.{arith, ne-cases}
 use lib.Arith.{lt-one}
-use lib.Bits.{bitAnd, bitOr, bitXor, and-comm, and-mask, and-shifted, and-le-l, and-shr, and-mod, or-shr, or-mod, or-lt, xor-shr, xor-mod, xor-lt}
+use lib.Bits.{bitAnd, bitOr, bitXor, and-comm, and-mask, and-shifted, and-le-l, and-le-r, and-shr, and-mod, or-shr, or-mod, or-lt, or-add-and, xor-add-and, xor-shr, xor-mod, xor-lt}
 use lib.Dec.{ltb, eqb}
 use lib.Pow.{pow-pos, pow-mono, pow-lt, shr-lt, shr-shr, ones-lt}
 use borrow.Author.Tests.{lt-ltb, le-ltb}
-use Rattle.marks.specs.Sets.{has, add, remove, only, full}
+use lib.Count.{trailingZeros, under}
+use Rattle.marks.specs.Sets.{has, add, remove, only, full, lowest}
 
 -- ---- digits and members
 
@@ -222,3 +223,60 @@ remove-in w s i h = rw (one-shift, lt-ltb)
 pub remove-out : (w s i : ℕ) → w ≤ i → s ≡ remove w s i
 unfolding remove
 remove-out w s i l = rw le-ltb
+
+-- ---- the smallest number
+
+first-bit : (s : ℕ) → has s 0 ≡ eqb (s % 2) 1
+unfolding has
+first-bit s = rw (div-one s)
+
+-- nothing below the smallest number is in the set
+pub none-below-lowest : (w s i : ℕ) → i < lowest w s → has s i ≡ false
+unfolding lowest trailingZeros
+none-below-lowest zero s i h = absurd (omega arith)
+none-below-lowest (suc w) s i h = go (s % 2) refl i h (λ j. none-below-lowest w (s / 2) j)
+  where
+    go : (r : ℕ) → s % 2 ≡ r → (j : ℕ) → j < under r (trailingZeros w (s / 2)) → ((k : ℕ) → k < trailingZeros w (s / 2) → has (s / 2) k ≡ false) → has s j ≡ false
+    go zero e zero l ih = first-bit s ∙ ap (λ (x : ℕ). eqb x 1) e
+    go zero e (suc j) l ih = sym (has-half s j) ∙ ih j (omega arith)
+    go (suc r) e j l ih = absurd (omega arith)
+
+-- the smallest number is in the set, where there is one
+pub has-lowest : (w s : ℕ) → s < 2 ^ w → 0 < s → has s (lowest w s) ≡ true
+unfolding lowest trailingZeros
+has-lowest zero s b h = absurd (omega (arith, lt-one b))
+has-lowest (suc w) s b h = go (s % 2) refl (has-lowest w (s / 2) (shr-lt w 1 (rw add-one b)))
+  where
+    go : (r : ℕ) → s % 2 ≡ r → (0 < s / 2 → has (s / 2) (trailingZeros w (s / 2)) ≡ true) → has s (under r (trailingZeros w (s / 2))) ≡ true
+    go zero e ih = sym (has-half s (trailingZeros w (s / 2))) ∙ ih (omega arith)
+    go (suc r) e ih = first-bit s ∙ ap (λ (x : ℕ). eqb x 1) (odd r e)
+      where
+        odd : (q : ℕ) → s % 2 ≡ suc q → s % 2 ≡ 1
+        odd q g = omega arith
+
+-- it is below the width
+pub lowest-below : (w s : ℕ) → s < 2 ^ w → 0 < s → lowest w s < w
+lowest-below w s b h =
+    elim (decLt (lowest w s) w) [
+      | yes l ↦ l
+      | no l ↦ absurd (true≢false (sym (has-lowest w s b h) ∙ has-past w s (lowest w s) b (omega arith)))
+    ]
+
+-- a number alone, and a set that has it
+and-one : (s i : ℕ) → has s i ≡ true → bitAnd s (2 ^ i) ≡ 2 ^ i
+and-one s i h =
+    same-set (suc i) (bitAnd s (2 ^ i)) (2 ^ i) (lt-of-le-of-lt (and-le-r s (2 ^ i)) (pow-lt (omega arith))) (pow-lt (omega arith))
+    (λ j l. has-and s (2 ^ i) j ∙ (elim (ℕ-discrete j i) [
+      | yes e ↦ rw e (rw (h, has-one-same i))
+      | no e ↦ rw (has-one-other i j e, and-false)
+    ]))
+
+-- a set is smaller without a number that it has
+pub remove-less : (w s i : ℕ) → i < w → has s i ≡ true → remove w s i < s
+unfolding remove
+remove-less w s i l h =
+    let a = and-one s i h in
+    let o : bitOr s (2 ^ i) ≡ s = let e = or-add-and s (2 ^ i) in omega arith in
+    let x = xor-add-and s (2 ^ i) in
+    let p = pow-pos i in
+    rw (lt-ltb i w l, o) (omega arith)

@@ -4,6 +4,7 @@ use Prim.Native.Nat.{ℕ, _-_, _/_, _%_, _^_}
 use mathlib.Core.Bool.{Bool, cond}
 use lib.Dec.{ltb, eqb}
 use lib.Bits.{bitAnd, bitOr, bitXor}
+use lib.Count.{trailingZeros}
 
 -- i is in the set
 unfoldable pub has : ℕ → ℕ → Bool
@@ -24,3 +25,7 @@ only set i = bitAnd set (2 ^ i)
 -- every number below k
 unfoldable pub full : ℕ → ℕ
 full k = 2 ^ k - 1
+
+-- the smallest number in the set, and the width where there is none
+unfoldable pub lowest : ℕ → ℕ → ℕ
+lowest width set = trailingZeros width set

@@ -1,7 +1,7 @@
 // Sets of small numbers, held as the bits of one number: bit i stands for the number i. A number at or past the width
 // has no bit: it is in no set, and putting it in or taking it out changes nothing.
 ghost use mathlib.Core.Path.{_≡_};
-ghost use Rattle.marks.specs.Sets.{has, add, remove};
+ghost use Rattle.marks.specs.Sets.{has, add, remove, lowest};
 
 // Whether i is in a set of numbers below 8.
 pub fn has8(set: u8, i: u8) -> bool
@@ -53,4 +53,11 @@ pub fn remove64(set: u64, i: u8) -> u64
     } else {
         set
     }
+}
+
+// The smallest number in a set of numbers below 64, and 64 where there is none.
+pub fn lowest64(set: u64) -> u8
+    ensures { λ r. ⌜ r ≡ lowest 64 set ⌝ }
+{
+    u64::trailing_zeros(set) as u8
 }

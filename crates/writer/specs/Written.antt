@@ -1,9 +1,9 @@
 -- Document 01, the writer: from n, v, the counts of the bodies and all records back to back, a trace file, or a refusal by
 -- 3, 4, 5, 6, 7 or 9, in that order.
 use Prim.Native.Nat.{ℕ, zero, suc, _+_, _*_, _/_, _%_}
-use mathlib.Core.Bool.{Bool, true, false, cond, not, _||_}
+use mathlib.Core.Bool.{Bool, false, cond, not, _||_}
 use mathlib.Core.List.{List, [], _∷_, _++_}
-use lib.Dec.{leb, ltb, eqb}
+use lib.Dec.{ltb, eqb}
 use lib.ListN.{length, drop}
 use Rattle.records.specs.Records.{record-at, keeps-row}
 use Rattle.tracefile.specs.File.{entry, most, record-size, outside}

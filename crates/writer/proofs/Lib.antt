@@ -1,0 +1,10 @@
+pub mod Again
+pub mod Answers
+pub mod Back
+pub mod Buffer
+pub mod Counts
+pub mod Decided
+pub mod Laid
+pub mod Parts
+pub mod RoundTrip
+pub mod Rows

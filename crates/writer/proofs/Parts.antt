@@ -1,0 +1,60 @@
+-- Records and numbers read in a part of a file are those of the file further on.
+-- Assumes nothing.
+use mathlib.Core.Bool.{Bool, true, false, cond}
+use mathlib.Core.List.{List, [], _∷_}
+use mathlib.Core.Path.{_≡_, refl, sym, ap, ap₂, _∙_}
+use Prim.Native.Nat.{ℕ, zero, suc, _+_, _-_, _*_, _≤_, _<_}
+use native.Mathlib.Nat.{add-assoc}
+use native.Mathlib.Numerals.{add-one}
+use native.Mathlib.Decide.{decLe}
+use native.Mathlib.Omega.{arith}
+use lib.Dec.{leb}
+use lib.ListN.{length, getD, drop, length-drop}
+use lib.Seq.{getD-drop, drop-cons}
+use borrow.Author.Tests.{le-leb, lt-leb}
+use Rattle.records.specs.Bytes.{byte, number}
+use Rattle.records.specs.Records.{record-at}
+use Rattle.records.specs.declared.Record.{Record}
+
+number-drop : (f : List ℕ) (s at k : ℕ) → number (drop s f) at k ≡ number f (s + at) k
+unfolding number
+number-drop f s at zero = refl
+number-drop f s at (suc k) =
+    ap₂ (λ (a b : ℕ). a + 256 * b) (getD-drop s f at 0)
+    (number-drop f s (at + 1) k ∙ ap (λ (x : ℕ). number f x k) (sym (add-assoc s at 1)))
+
+fits-drop : (f : List ℕ) (s at : ℕ) → s ≤ length f → leb (at + 12) (length (drop s f)) ≡ leb (s + at + 12) (length f)
+fits-drop f s at h =
+    let l = length-drop s f in
+    elim (decLe (s + at + 12) (length f)) [
+      | yes g ↦ le-leb (at + 12) (length (drop s f)) (omega arith) ∙ sym (le-leb (s + at + 12) (length f) g)
+      | no g ↦ lt-leb (at + 12) (length (drop s f)) (omega arith) ∙ sym (lt-leb (s + at + 12) (length f) (omega arith))
+    ]
+
+pub record-drop : (f : List ℕ) (s at : ℕ) → s ≤ length f → record-at (drop s f) at ≡ record-at f (s + at)
+unfolding record-at
+record-drop f s at h =
+    rw (
+      fits-drop f s at h,
+      number-drop f s (at + 4) 8,
+      getD-drop s f at 0,
+      getD-drop s f (at + 1) 0,
+      getD-drop s f (at + 2) 0,
+      getD-drop s f (at + 3) 0,
+      ← add-assoc s at 4,
+      ← add-assoc s at 1,
+      ← add-assoc s at 2,
+      ← add-assoc s at 3,
+    )
+
+-- four bytes of a file, and what stands after them
+pub four : (f : List ℕ) (at : ℕ) → at + 4 ≤ length f
+    → drop at f ≡ byte f at ∷ byte f (at + 1) ∷ byte f (at + 2) ∷ byte f (at + 3) ∷ drop (at + 4) f
+four f at h =
+    one at (omega arith)
+    ∙ ap (λ (l : List ℕ). byte f at ∷ l) (one (at + 1) (omega arith) ∙ ap (λ (x : ℕ). byte f (at + 1) ∷ drop x f) (add-assoc at 1 1)
+    ∙ ap (λ (l : List ℕ). byte f (at + 1) ∷ l) (one (at + 2) (omega arith) ∙ ap (λ (x : ℕ). byte f (at + 2) ∷ drop x f) (add-assoc at 2 1)
+    ∙ ap (λ (l : List ℕ). byte f (at + 2) ∷ l) (one (at + 3) (omega arith) ∙ ap (λ (x : ℕ). byte f (at + 3) ∷ drop x f) (add-assoc at 3 1))))
+  where
+    one : (j : ℕ) → j < length f → drop j f ≡ byte f j ∷ drop (j + 1) f
+    one j l = drop-cons f j 0 l ∙ ap (λ (x : ℕ). byte f j ∷ drop x f) (sym (add-one j))
