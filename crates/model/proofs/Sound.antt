@@ -4,8 +4,9 @@ use mathlib.Core.Bool.{Bool, true, false, _&&_}
 use mathlib.Core.List.{List, [], _∷_, _++_, List·Memᴰ, List·Memᴰ·head, List·Memᴰ·tail, List·Memᴰ·cases-cons, List·Memᴰ·not-nil}
 use mathlib.Core.Logic.{_⊎_, inl, inr, ⊎-elim}
 use mathlib.Core.Path.{_≡_, refl, sym, ap, _∙_, subst}
-use Prim.Native.Nat.{ℕ, zero, suc, _<_}
+use Prim.Native.Nat.{ℕ, zero, suc, _≤_, _<_, suc-le-suc}
 use native.Mathlib.Omega.{arith}
+use lib.ListN.{length}
 use Rattle.model.specs.Walk.{Service, Lawful, Choice, Explains, possible, trace, children, choices, Walked, found, endless, stopped, after, or-else, tried, visited, walked, needed}
 use Rattle.model.proofs.Children.{Child, child, a-child}
 
@@ -80,6 +81,24 @@ module _ {S O E : Type 0} (𝓢 : Service S O E) where
   unfolding walked
   some-point zero s obs = visited-some (λ c. stopped 0) s obs
   some-point (suc d) s obs = visited-some (λ c. walked 𝓢 d (𝓢 .then s (c .event)) (c .left)) s obs
+
+  -- a found end is within the depth
+  visited-within : (f : Choice O E → Walked E) (d : ℕ) (s : S) (obs : List O) (k : ℕ) (es : List E)
+      → ((c : Choice O E) (j : ℕ) (r : List E) → f c ≡ found j r → length r < d) → visited 𝓢 f s obs ≡ found k es → length es ≤ d
+  unfolding visited
+  visited-within f d s [] k es below h = let e : [] ≡ es = cc in subst (λ (l : List E). length l ≤ d) e (omega arith)
+  visited-within f d s (o ∷ obs) k es below h =
+      let a = after-found 1 k (tried 𝓢 f (children 𝓢 s (o ∷ obs))) es h in
+      let r = tried-found f (children 𝓢 s (o ∷ obs)) (a .0) es (a .1) in
+      subst (λ (l : List E). length l ≤ d) (sym (r .events)) (below (r .by) (r .points) (r .rest) (r .finds))
+
+  pub found-within : (d : ℕ) (s : S) (obs : List O) (k : ℕ) (es : List E) → walked 𝓢 d s obs ≡ found k es → length es ≤ d
+  unfolding walked
+  found-within zero s obs k es h =
+      visited-within (λ c. stopped 0) 0 s obs k es (λ c j r q. let z : _≡_ {A = ℕ} 0 1 = cc in absurd (omega arith)) h
+  found-within (suc d) s obs k es h =
+      visited-within (λ c. walked 𝓢 d (𝓢 .then s (c .event)) (c .left)) (suc d) s obs k es
+      (λ c j r q. suc-le-suc (found-within d (𝓢 .then s (c .event)) (c .left) j r q)) h
 
   module _ (𝓛 : Lawful 𝓢) where
     -- a child's explanation is one of its parent, with the child's event in front

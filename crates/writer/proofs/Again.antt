@@ -22,7 +22,8 @@ use Rattle.tracefile.proofs.Good.{passed, good-entry, good-contents, good-file,
 use Rattle.writer.specs.Written.{Result, wrote, refused, two-bytes, entries-of, file-of, file-size, sum, over, bad-record, fitted, rows-then-room, write}
 use Rattle.writer.specs.RoundTrip.{counts-from, counts-in}
 use Rattle.writer.proofs.Laid.{Rows}
-use Rattle.writer.proofs.Parts.{record-drop, four}
+use Rattle.records.proofs.Parts.{record-drop}
+use Rattle.writer.proofs.Four.{four}
 
 -- every element of the list is a byte
 abbrev pub Bytes : List ℕ → Type 0

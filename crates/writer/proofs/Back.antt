@@ -20,7 +20,7 @@ use Rattle.tracefile.proofs.Good.{inside, asked-part}
 use Rattle.writer.specs.Written.{Result, wrote, refused, entries-of, file-of, file-size, sum, over, bad-record, fitted, rows-then-room, write}
 use Rattle.writer.specs.RoundTrip.{counts-from, counts-in, bodies-from, read-bodies, parted}
 use Rattle.writer.proofs.Laid.{later, few, first-entry, entries-good, Rows, bodies-good}
-use Rattle.writer.proofs.Parts.{record-drop}
+use Rattle.records.proofs.Parts.{record-drop}
 
 -- ---- what acceptance says
 

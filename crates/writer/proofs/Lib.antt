@@ -4,7 +4,7 @@ pub mod Back
 pub mod Buffer
 pub mod Counts
 pub mod Decided
+pub mod Four
 pub mod Laid
-pub mod Parts
 pub mod RoundTrip
 pub mod Rows

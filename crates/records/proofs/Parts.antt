@@ -1,20 +1,18 @@
 -- Records and numbers read in a part of a file are those of the file further on.
 -- Assumes nothing.
 use mathlib.Core.Bool.{Bool, true, false, cond}
-use mathlib.Core.List.{List, [], _∷_}
+use mathlib.Core.List.{List}
 use mathlib.Core.Path.{_≡_, refl, sym, ap, ap₂, _∙_}
-use Prim.Native.Nat.{ℕ, zero, suc, _+_, _-_, _*_, _≤_, _<_}
+use Prim.Native.Nat.{ℕ, zero, suc, _+_, _*_, _≤_}
 use native.Mathlib.Nat.{add-assoc}
-use native.Mathlib.Numerals.{add-one}
 use native.Mathlib.Decide.{decLe}
 use native.Mathlib.Omega.{arith}
 use lib.Dec.{leb}
-use lib.ListN.{length, getD, drop, length-drop}
-use lib.Seq.{getD-drop, drop-cons}
+use lib.ListN.{length, drop, length-drop}
+use lib.Seq.{getD-drop}
 use borrow.Author.Tests.{le-leb, lt-leb}
-use Rattle.records.specs.Bytes.{byte, number}
+use Rattle.records.specs.Bytes.{number}
 use Rattle.records.specs.Records.{record-at}
-use Rattle.records.specs.declared.Record.{Record}
 
 number-drop : (f : List ℕ) (s at k : ℕ) → number (drop s f) at k ≡ number f (s + at) k
 unfolding number
@@ -46,15 +44,3 @@ record-drop f s at h =
       ← add-assoc s at 2,
       ← add-assoc s at 3,
     )
-
--- four bytes of a file, and what stands after them
-pub four : (f : List ℕ) (at : ℕ) → at + 4 ≤ length f
-    → drop at f ≡ byte f at ∷ byte f (at + 1) ∷ byte f (at + 2) ∷ byte f (at + 3) ∷ drop (at + 4) f
-four f at h =
-    one at (omega arith)
-    ∙ ap (λ (l : List ℕ). byte f at ∷ l) (one (at + 1) (omega arith) ∙ ap (λ (x : ℕ). byte f (at + 1) ∷ drop x f) (add-assoc at 1 1)
-    ∙ ap (λ (l : List ℕ). byte f (at + 1) ∷ l) (one (at + 2) (omega arith) ∙ ap (λ (x : ℕ). byte f (at + 2) ∷ drop x f) (add-assoc at 2 1)
-    ∙ ap (λ (l : List ℕ). byte f (at + 2) ∷ l) (one (at + 3) (omega arith) ∙ ap (λ (x : ℕ). byte f (at + 3) ∷ drop x f) (add-assoc at 3 1))))
-  where
-    one : (j : ℕ) → j < length f → drop j f ≡ byte f j ∷ drop (j + 1) f
-    one j l = drop-cons f j 0 l ∙ ap (λ (x : ℕ). byte f j ∷ drop x f) (sym (add-one j))
