@@ -1,0 +1,54 @@
+// The reader's cases: what it answers for a file and a trace number, and the body that it hands back.
+use crate::case;
+use tracefile::Checked;
+use tracefile::Refusal;
+
+// A refusal by its number in the specification, and its place; 0 and 0 where there is none.
+struct Answer(u32, u32);
+
+fn told_refusal(refusal: Refusal) -> Answer {
+    match refusal {
+        Refusal::Length => Answer(1, 0),
+        Refusal::Edition => Answer(2, 0),
+        Refusal::Tablets => Answer(3, 1),
+        Refusal::Values => Answer(4, 2),
+        Refusal::Bodies => Answer(5, 3),
+        Refusal::Contents(place) => Answer(6, place),
+        Refusal::BadRecord(place) => Answer(7, place),
+        Refusal::Trace => Answer(8, 0),
+    }
+}
+
+fn told(checked: Checked) -> Answer {
+    match checked {
+        Checked::Good => Answer(0, 0),
+        Checked::Refused(refusal) => told_refusal(refusal),
+    }
+}
+
+// Whether the reader answers by this refusal at this place.
+fn says(checked: Checked, refusal: u32, place: u32) -> bool {
+    let answer = told(checked);
+    (answer.0 == refusal) & (answer.1 == place)
+}
+
+// What refuses the whole file where this refuses a trace of it: nothing, where only the trace number is wrong.
+fn of_file(refusal: u32) -> u32 {
+    if refusal == 8 { 0 } else { refusal }
+}
+
+// Whether the reader does what a case expects.
+pub fn agrees(packed: &[u8]) -> bool {
+    let file = case::held(packed, case::GIVEN);
+    let trace = case::number(packed, case::TRACE);
+    let refusal = case::number(packed, case::REFUSAL);
+    let place = case::number(packed, case::PLACE);
+    if !says(tracefile::check_file(file), of_file(refusal), place) {
+        return false;
+    }
+    if !says(tracefile::check_asked(file, trace), refusal, place) {
+        return false;
+    }
+    let body = case::held(packed, case::EXPECTED);
+    check::same(tracefile::asked_body(file, trace), body)
+}
