@@ -168,7 +168,7 @@ room-as-walked f t b room y =
     ∙ ap (λ c. cond c room (outcome-in (outcome (tablets-in f) (evening f t) b) room)) (le-ltb (length room) (2 * depth (tablets-in f) (evening f t)) (y .enough))
 
 -- undecided and nothing else
-abbrev IsUndecided : Said → Type 0
+abbrev pub IsUndecided : Said → Type 0
 IsUndecided (explained-by k m) = ⊥
 IsUndecided (unexplained-in k) = ⊥
 IsUndecided (undecided-at b) = Unit {0}

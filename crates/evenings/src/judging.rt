@@ -1,0 +1,93 @@
+// What is said of a case, and what stands in its room afterwards.
+use crate::case;
+use tracefile::Refusal;
+use verdict::Verdict;
+ghost use mathlib.Core.Path.{_≡_};
+ghost use lib.ListN.{length};
+
+// What every byte of the room is before the call.
+const PATTERN: u8 = 0xa5;
+
+// A status, 0 explained, 1 unexplained, 2 undecided, or 10 plus the number of a refusal; then points, events and place, 0
+// where there is none.
+struct Answer(u32, u32, u32, u32);
+
+fn told_refusal(refusal: Refusal) -> Answer {
+    match refusal {
+        Refusal::Length => Answer(11, 0, 0, 0),
+        Refusal::Edition => Answer(12, 0, 0, 0),
+        Refusal::Tablets => Answer(13, 0, 0, 1),
+        Refusal::Values => Answer(14, 0, 0, 2),
+        Refusal::Bodies => Answer(15, 0, 0, 3),
+        Refusal::Contents(place) => Answer(16, 0, 0, place),
+        Refusal::BadRecord(place) => Answer(17, 0, 0, place),
+        Refusal::Trace => Answer(18, 0, 0, 0),
+    }
+}
+
+fn told(said: Verdict) -> Answer {
+    match said {
+        Verdict::Explained { points, events } => Answer(0, points, events, 0),
+        Verdict::Unexplained { points } => Answer(1, points, 0, 0),
+        Verdict::Undecided { points } => Answer(2, points, 0, 0),
+        Verdict::Refused(refusal) => told_refusal(refusal),
+        Verdict::NoRoom => Answer(19, 0, 0, 0),
+        Verdict::TooDeep => Answer(20, 0, 0, 0),
+    }
+}
+
+// Whether the answer is the one that a case expects.
+fn says(packed: &[u8], said: Verdict) -> bool {
+    let answer = told(said);
+    (answer.0 == case::number(packed, case::STATUS))
+        & (answer.1 == case::number(packed, case::POINTS))
+        & (answer.2 == case::number(packed, case::COUNT))
+        & (answer.3 == case::number(packed, case::PLACE))
+}
+
+// Whether a room starts with these events and has the pattern in every byte after them.
+fn stands(events: &[u8], room: &[u8]) -> bool {
+    if room.len() < events.len() {
+        return false;
+    }
+    let mut i = 0;
+    while i < room.len() {
+        let right = if i < events.len() { events[i] } else { PATTERN };
+        if room[i] != right {
+            return false;
+        }
+        i += 1;
+    }
+    true
+}
+
+// Whether the call with this room does what a case expects.
+fn judges(packed: &[u8], room: &mut [u8]) -> bool {
+    let file = case::held(packed, case::FILE);
+    let trace = case::number(packed, case::TRACE);
+    let budget = case::number(packed, case::BUDGET);
+    let said = verdict::explain(file, trace, budget, room);
+    says(packed, said) & stands(case::held(packed, case::EVENTS), room)
+}
+
+// The same with as much of this room as the case says.
+fn judges_within(packed: &[u8], room: &mut [u8]) -> bool {
+    let length = case::number(packed, case::ROOM) as usize;
+    if room.len() < length {
+        return false;
+    }
+    judges(packed, &mut room[0..length])
+}
+
+// Room for every case, filled with the pattern.
+fn filled() -> [u8; 8192]
+    ensures { λ r. ⌜ 8192 ≡ length r ⌝ }
+{
+    [PATTERN; 8192]
+}
+
+// Whether the call does what a case expects.
+pub fn agrees(packed: &[u8]) -> bool {
+    let mut room = filled();
+    judges_within(packed, &mut room)
+}
