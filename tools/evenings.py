@@ -351,8 +351,8 @@ def worked_refusals():
 # The papers' example tests. Document 000 is 'Mysteries of Dropbox', document 003 the slides 'A Deep Specification for
 # Dropbox'. a, b and c are 1, 2 and 3, and the missing file is 0. What each gives is worked out by the walk above, and not
 # taken from the paper: not every explanation printed there is complete, and its rule for uploads changes on the way. The
-# slides set the events of two clients side by side; where that loses their order, the order is that of document 000. ownCloud's
-# deleted directories are left out: they are no single file.
+# slides set the events of two clients side by side; where that loses their order, the order is that of document 000.
+# ownCloud's deleted directories are left out: they are no single file.
 PAPERS = [
     ('000 III: two blind writes, and the first wins', 2, [W(1, 1, 0), W(2, 2, 0), R(2, 1)]),
     ('000 III: the same, stable with the second in conflict', 2, [W(1, 1, 0), W(2, 2, 0), R(2, 1), S(1, 2)]),

@@ -2,7 +2,7 @@
 -- large the number is, that two sets with the same members are one, and what the machine's shifts come to. Assumes nothing.
 use mathlib.Core.Path.{_≡_, refl, sym, ap, _∙_}
 use mathlib.Core.Bool.{Bool, true, false, cond, _&&_, _||_, xor, true≢false, and-true, and-false, or-true, or-false}
-use Prim.Native.Nat.{ℕ, zero, suc, _+_, _*_, _/_, _%_, _^_, _≤_, _<_}
+use Prim.Native.Nat.{ℕ, zero, suc, _*_, _/_, _%_, _^_, _≤_, _<_}
 use native.Mathlib.Nat.{lt-of-le-of-lt, lt-of-lt-of-le, one-mul, div-one, div-self, div-eq-of-lt, mod-eq-of-lt, zero-div}
 use native.Mathlib.Decide.{decLt, ℕ-discrete}
 use native.Mathlib.Numerals.{add-one, one-add}

@@ -4,11 +4,11 @@ use mathlib.Core.Bool.{Bool, true, false, cond}
 use mathlib.Core.List.{List}
 use mathlib.Core.Path.{_≡_, refl, sym, ap, _∙_, subst}
 use Prim.Native.Nat.{ℕ, suc, _≤_, _<_}
-use native.Mathlib.Nat.{le-trans, lt-of-lt-of-le}
+use native.Mathlib.Nat.{le-trans}
 use native.Mathlib.Omega.{arith}
 use lib.Dec.{leb, ltb}
-use borrow.Author.Tests.{le-leb, lt-leb, lt-ltb, leb-true, leb-false, ltb-true}
-use Rattle.model.specs.Walk.{Walked, found, endless, stopped, Outcome, explained, unexplained, undecided, too-deep, needed, Unstopped, cut, Decided}
+use borrow.Author.Tests.{le-leb, lt-leb, lt-ltb, leb-true}
+use Rattle.model.specs.Walk.{Walked, found, endless, stopped, explained, unexplained, undecided, too-deep, needed, Unstopped, cut, Decided}
 
 module _ {E : Type 0} where
   -- within the budget the cut says what the walk found; beyond it, undecided

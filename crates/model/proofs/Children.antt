@@ -1,12 +1,12 @@
 -- What the children of a point are: exactly the choices that use the trace from its front and that may happen.
 -- Assumes nothing.
-use mathlib.Core.Bool.{Bool, true, false, _&&_}
+use mathlib.Core.Bool.{Bool, true, false}
 use mathlib.Core.List.{List, [], _∷_, _++_, map, List·Memᴰ, List·Memᴰ·head, List·Memᴰ·tail, List·Memᴰ·cases-cons, List·Memᴰ·not-nil, Memᴰ·map, Memᴰ·of-map, tail-eq-of-cons-eq, head-eq-of-cons-eq}
 use mathlib.Core.Logic.{_⊎_, inl, inr, ⊎-elim}
-use mathlib.Core.Path.{_≡_, refl, sym, ap, _∙_, subst}
+use mathlib.Core.Path.{_≡_, refl, sym, ap, _∙_}
 use Prim.Native.Nat.{ℕ}
 use native.Mathlib.Omega.{arith}
-use Rattle.model.specs.Walk.{Service, Lawful, Choice, Explains, possible, trace, kept, only-possible, choice, choices, children}
+use Rattle.model.specs.Walk.{Service, Lawful, Choice, kept, only-possible, choice, choices, children}
 
 module _ {S O E : Type 0} (𝓢 : Service S O E) where
   kept-in : (b : Bool) (c x : Choice O E) (cs : List (Choice O E)) → List·Memᴰ x (kept 𝓢 b c cs) → ((x ≡ c) × (b ≡ true)) ⊎ List·Memᴰ x cs

@@ -1,9 +1,9 @@
 -- The errors that earlier versions made, and those that cases A to K would not show, ruled out of the table one by one.
 -- Assumes nothing.
-use mathlib.Core.Bool.{Bool, true, false, cond, not, _&&_, and-false}
+use mathlib.Core.Bool.{Bool, true, false, cond, not, _&&_}
 use mathlib.Core.List.{List, [], _∷_, List·Memᴰ, List·Memᴰ·cases-cons, List·Memᴰ·not-nil}
 use mathlib.Core.Logic.{⊎-elim}
-use mathlib.Core.Path.{_≡_, refl, sym, ap, ap₂, _∙_}
+use mathlib.Core.Path.{_≡_, refl, ap, _∙_}
 use Prim.Native.Nat.{ℕ, _<_}
 use lib.Dec.{eqb}
 use borrow.Author.Tests.{eqb-true, eq-eqb, not-true}

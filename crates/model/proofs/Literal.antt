@@ -8,7 +8,7 @@ use native.Mathlib.Nat.{add-zero, add-assoc, zero-add, suc-add, add-suc}
 use lib.Dec.{ltb, eqb, leb·suc-suc, leb·suc-zero, eqb·suc-suc, eqb·zero-suc}
 use lib.ListN.{length, length-append}
 use Rattle.model.specs.Walk.{Service, Lawful, Choice, trace, children, points, below, counted, ordered, Walked, found, endless, stopped, after, or-else, tried, visited, walked}
-use Rattle.model.proofs.Children.{Child, child}
+use Rattle.model.proofs.Children.{child}
 
 eqb-add : (k m n : ℕ) → eqb (k + m) (k + n) ≡ eqb m n
 eqb-add zero m n = ap₂ eqb (zero-add m) (zero-add n)

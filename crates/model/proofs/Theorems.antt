@@ -3,9 +3,9 @@
 -- Assumes nothing.
 use mathlib.Core.List.{List, [], _∷_, _++_, List·Memᴰ}
 use mathlib.Core.Logic.{_↔_}
-use mathlib.Core.Path.{_≡_, refl, _∙_}
-use Prim.Native.Nat.{ℕ, suc, _≤_, _<_}
-use Rattle.model.specs.Walk.{Walked, found, endless, Outcome, explained, unexplained, undecided, Once, Point, children, points, to-last, needed, Unstopped, Decided, cut}
+use mathlib.Core.Path.{_≡_, refl}
+use Prim.Native.Nat.{ℕ, _≤_, _<_}
+use Rattle.model.specs.Walk.{found, endless, undecided, Once, Point, children, points, to-last, needed, Unstopped, Decided}
 use Rattle.model.specs.Model.{first-state, service, hidden, depth, Explanation, ordered-walk, walk, outcome}
 use Rattle.model.specs.declared.State.{State}
 use Rattle.model.specs.declared.Observation.{Observation}

@@ -1,9 +1,9 @@
 -- Explanations of a shorter trace, and explanations cut short.
 -- Assumes nothing.
-use mathlib.Core.Bool.{Bool, true, false, _&&_}
+use mathlib.Core.Bool.{Bool, true, _&&_}
 use mathlib.Core.List.{List, [], _∷_, _++_, nil≢cons, tail-eq-of-cons-eq, head-eq-of-cons-eq}
-use mathlib.Core.Logic.{_⊎_, inl, inr, ⊎-elim}
-use mathlib.Core.Path.{_≡_, refl, sym, ap, ap₂, _∙_, subst}
+use mathlib.Core.Logic.{_⊎_, ⊎-elim}
+use mathlib.Core.Path.{_≡_, refl, sym, ap, _∙_, subst}
 use Rattle.model.specs.Walk.{Service, Lawful, Explains, possible, trace, unless-unseen, to-last}
 use Rattle.model.proofs.Sound.{and-true}
 

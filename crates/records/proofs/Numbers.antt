@@ -1,8 +1,8 @@
 -- Numbers in bytes: what the 8 bytes of a set come to, and what a shift says of a bound.
 -- Assumes nothing.
-use mathlib.Core.Bool.{Bool, true, false}
+use mathlib.Core.Bool.{true, false}
 use mathlib.Core.List.{List}
-use mathlib.Core.Path.{_≡_, refl, sym, ap, _∙_}
+use mathlib.Core.Path.{_≡_, sym, ap, _∙_}
 use Prim.Native.Nat.{ℕ, _+_, _*_, _/_, _-_, _^_, _≤_, _<_}
 use native.Mathlib.Nat.{add-assoc, add-zero, div-eq-of-lt, div-lt-iff-lt-mul, one-mul, lt-of-lt-of-le}
 use native.Mathlib.Decide.{decLt}

@@ -1,6 +1,6 @@
 -- The checks of a file as their loops go: one entry after the other, one body after the other, one record after the other.
 -- Assumes nothing.
-use mathlib.Core.Bool.{Bool, true, false, cond, not, _||_}
+use mathlib.Core.Bool.{Bool, true, false, not, _||_}
 use mathlib.Core.List.{List}
 use mathlib.Core.Path.{_≡_, refl, sym, ap, _∙_}
 use Prim.Native.Nat.{ℕ, zero, suc, _+_, _-_, _*_, _≤_, _<_}
@@ -17,7 +17,7 @@ use Rattle.tracefile.specs.declared.Refusal.{Refusal}
 use Rattle.tracefile.specs.declared.Refusal.the-variants.{Length, Edition, Tablets, Values, Bodies, Contents, BadRecord, Trace}
 use Rattle.tracefile.specs.declared.Checked.{Checked}
 use Rattle.tracefile.specs.declared.Checked.the-variants.{Good, Refused}
-use Rattle.tracefile.specs.File.{tablets-in, values-in, entry, offset-in, count-in, body-size, bad-entry, entries, contents, in-body, in-bodies, records}
+use Rattle.tracefile.specs.File.{tablets-in, values-in, entry, offset-in, count-in, bad-entry, entries, contents, in-body, in-bodies, records}
 
 pub or-false : (a b : Bool) → (a || b) ≡ false → (a ≡ false) × (b ≡ false)
 or-false true b h = let z : _≡_ {A = ℕ} 0 1 = cc in absurd (omega arith)

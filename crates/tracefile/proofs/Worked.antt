@@ -4,10 +4,10 @@ use mathlib.Core.List.{[], _∷_, _++_}
 use mathlib.Core.Path.{_≡_, refl}
 use lib.ListN.{take, set}
 use Rattle.records.specs.Bytes.{number}
-use Rattle.records.specs.Records.{record-at, keeps-row, observations}
+use Rattle.records.specs.Records.{observations}
 use Rattle.model.specs.declared.Observation.the-variants.{Write, Stabilize}
 use Rattle.tracefile.specs.Refusals.{accepted, refused}
-use Rattle.tracefile.specs.File.{check, asked, offset-in, count-in}
+use Rattle.tracefile.specs.File.{check, asked}
 use Rattle.tracefile.specs.Example.{file-of-d, records-of-d}
 
 pub good : check file-of-d ≡ accepted

@@ -2,7 +2,7 @@
 use Prim.Native.Nat.{ℕ, zero, suc, _+_, _-_, _*_}
 use mathlib.Core.Bool.{Bool, cond, not, _||_}
 use mathlib.Core.List.{List, []}
-use lib.Dec.{leb, ltb, eqb}
+use lib.Dec.{ltb, eqb}
 use lib.ListN.{length, take, drop}
 use Rattle.records.specs.Bytes.{byte, number}
 use Rattle.tracefile.specs.Refusals.{Answer, accepted, refused, and-then}

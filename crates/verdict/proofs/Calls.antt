@@ -2,14 +2,14 @@
 -- Assumes nothing.
 use mathlib.Core.Bool.{Bool, true, false, cond}
 use mathlib.Core.List.{List, [], _∷_}
-use mathlib.Core.Path.{_≡_, refl, sym, ap, ap₂, _∙_, subst}
-use Prim.Native.Nat.{ℕ, zero, suc, _+_, _-_, _*_, _/_, _^_, _≤_, _<_}
+use mathlib.Core.Path.{_≡_, refl, sym, ap, ap₂, _∙_}
+use Prim.Native.Nat.{ℕ, _-_, _*_, _^_, _≤_, _<_}
 use native.Mathlib.Nat.{mul-le-mul, le-trans}
 use native.Mathlib.Omega.{arith}
 use lib.Dec.{ltb, leb}
-use lib.ListN.{length, take, drop, length-drop}
+use lib.ListN.{length, drop, length-drop}
 use lib.Seq.{length-take-le}
-use Rattle.model.specs.Walk.{Walked, found, endless, stopped, Outcome, explained, unexplained, undecided, too-deep, cut}
+use Rattle.model.specs.Walk.{Walked, found, endless, stopped, explained, unexplained, undecided, too-deep, cut}
 use Rattle.model.specs.Model.{service, first-state, writes, depth, walk, outcome}
 use Rattle.model.proofs.Sound.{found-within}
 use Rattle.model.specs.declared.Observation.{Observation}
@@ -23,7 +23,7 @@ use Rattle.tracefile.specs.declared.Refusal.the-variants.{Length, Edition, Tabl
 use Rattle.tracefile.specs.declared.Checked.{Checked}
 use Rattle.tracefile.specs.declared.Checked.the-variants.{Refused}
 use Rattle.tracefile.proofs.Good.{there, asked-part, good-trace, good-file}
-use Rattle.walk.specs.Steps.{answer-of, outcome-in, answered, room-answered}
+use Rattle.walk.specs.Steps.{answer-of, answered, room-answered}
 use Rattle.walk.specs.declared.Answer.{Answer}
 use Rattle.walk.specs.declared.Answer.the-variants.{Explained, Unexplained, Undecided, TooDeep, NoRoom}
 use Rattle.walk.proofs.Whole.{observations-length}

@@ -1,14 +1,14 @@
 -- The set of possible choices, bit by bit: UPs where a tablet is dirty, DOWNs where it is neither fresh nor dirty.
 -- Assumes nothing.
-use mathlib.Core.Bool.{Bool, true, false, cond, not, xor, _&&_, _||_, and-comm, or-false, and-true}
+use mathlib.Core.Bool.{Bool, true, false, cond, not, xor, _&&_, _||_, and-comm, or-false}
 use mathlib.Core.Path.{_≡_, refl, sym, ap, ap₂, _∙_, subst}
-use Prim.Native.Nat.{ℕ, zero, suc, _+_, _-_, _*_, _/_, _%_, _^_, _≤_, _<_, min}
-use native.Mathlib.Nat.{add-sub-of-le, lt-of-lt-of-le, lt-of-le-of-lt, mul-lt-mul-of-pos-right, mod-eq-of-lt}
-use native.Mathlib.Decide.{decLe, decLt}
+use Prim.Native.Nat.{ℕ, zero, suc, _+_, _-_, _*_, _/_, _%_, _^_, _≤_, _<_}
+use native.Mathlib.Nat.{add-sub-of-le, lt-of-lt-of-le, lt-of-le-of-lt}
+use native.Mathlib.Decide.{decLe}
 use native.Mathlib.Omega.{arith}
-use lib.Bits.{bitAnd, bitOr, bitXor, and-shifted, and-le-l, and-le-r, or-lt, xor-lt}
-use lib.Dec.{leb, ltb, eqb, lit<}
-use lib.Pow.{pow-pos, pow-lt, shl-shr, shr-shr, shl-lt, shl-exact}
+use lib.Bits.{bitAnd, bitOr, bitXor, and-shifted, and-le-l, or-lt, xor-lt}
+use lib.Dec.{leb, eqb, lit<}
+use lib.Pow.{pow-lt, shl-shr, shr-shr, shl-lt, shl-exact}
 use borrow.Author.Tests.{le-leb, lt-leb, ne-eqb}
 use Rattle.marks.specs.Sets.{has, only, full}
 use Rattle.marks.proofs.Laws.{has-and, has-or, has-xor, has-empty, has-past, has-one-same, has-only-same, has-full, not-has-full}

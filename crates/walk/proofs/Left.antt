@@ -3,14 +3,14 @@
 use mathlib.Core.Bool.{Bool, true, false, cond, not}
 use mathlib.Core.List.{List, [], _∷_, _++_}
 use mathlib.Core.Path.{_≡_, refl, sym, ap, ap₂, _∙_, subst}
-use Prim.Native.Nat.{ℕ, zero, suc, _+_, _-_, _*_, _≤_, _<_}
+use Prim.Native.Nat.{ℕ, suc, _+_, _-_, _*_, _≤_, _<_}
 use native.Mathlib.Decide.{decLe}
 use native.Mathlib.Omega.{arith}
 use lib.Dec.{T, T-not, leb, ltb, eqb, eqb-refl}
 use lib.ListN.{length, take, drop, set}
 use lib.Seq.{drop-drop}
-use borrow.Author.Tests.{le-leb, lt-leb, lt-ltb, le-ltb, leb-true, leb-false, ltb-true}
-use Rattle.model.specs.Walk.{Walked, found, endless, stopped, after, or-else, needed}
+use borrow.Author.Tests.{le-leb, lt-leb, lt-ltb, le-ltb, leb-true, leb-false}
+use Rattle.model.specs.Walk.{Walked, found, endless, stopped, after, or-else}
 use Rattle.model.specs.Model.{service}
 use Rattle.model.specs.declared.Event.{Event}
 use Rattle.walk.specs.Steps.{event-bytes, laid, laid-in, left-of, room-after}

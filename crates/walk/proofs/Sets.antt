@@ -1,15 +1,14 @@
 -- The choices in a set: the lowest first, then those of the rest; and the set of possible choices holds a point's children.
 -- Assumes nothing.
-use mathlib.Core.Bool.{Bool, true, false, cond, _&&_, and-false}
+use mathlib.Core.Bool.{Bool, true, false, _&&_, and-false}
 use mathlib.Core.List.{List, [], _∷_, _++_, map, map-append, append-nil}
-use mathlib.Core.Path.{_≡_, refl, sym, ap, ap₂, _∙_, subst}
-use Prim.Native.Nat.{ℕ, zero, suc, _+_, _-_, _*_, _≤_, _<_, _^_, min}
+use mathlib.Core.Path.{_≡_, refl, sym, ap, ap₂, _∙_}
+use Prim.Native.Nat.{ℕ, zero, suc, _+_, _-_, _≤_, _<_, _^_}
 use native.Mathlib.Nat.{add-zero, add-suc, suc-add, zero-add}
-use native.Mathlib.Numerals.{add-one}
-use native.Mathlib.Decide.{ℕ-discrete, decLe}
+use native.Mathlib.Decide.{decLe}
 use native.Mathlib.Omega.{arith}
-use lib.Dec.{leb, eqb}
-use borrow.Author.Tests.{le-leb, lt-leb, ne-eqb}
+use lib.Dec.{leb}
+use borrow.Author.Tests.{lt-leb, ne-eqb}
 use Rattle.marks.specs.Sets.{has, remove, lowest}
 use Rattle.marks.proofs.Laws.{has-lowest, none-below-lowest, lowest-below, has-remove-same, has-remove-other, has-past}
 use Rattle.model.specs.Walk.{Choice, kept, only-possible, choice, choices, children}

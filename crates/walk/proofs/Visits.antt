@@ -1,17 +1,16 @@
 -- A visit and a choice, step by step: what each comes to in terms of what it calls.
 -- Assumes nothing.
 use mathlib.Core.Bool.{Bool, true, false, cond}
-use mathlib.Core.List.{List, [], _∷_, _++_}
-use mathlib.Core.Path.{_≡_, refl, sym, ap, ap₂, _∙_, subst}
-use Prim.Native.Nat.{ℕ, zero, suc, _+_, _-_, _*_, _/_, _≤_, _<_, _^_}
-use native.Mathlib.Nat.{add-sub-cancel}
+use mathlib.Core.List.{List, [], _∷_}
+use mathlib.Core.Path.{_≡_, refl, sym, ap, _∙_}
+use Prim.Native.Nat.{ℕ, zero, suc, _+_, _-_, _/_, _≤_, _<_, _^_}
 use native.Mathlib.Omega.{arith}
-use lib.Dec.{leb, ltb, eqb}
+use lib.Dec.{eqb}
 use lib.ListN.{length, drop, length-drop}
 use borrow.Author.Tests.{le-leb}
 use Rattle.marks.specs.Sets.{has, remove, lowest}
 use Rattle.marks.proofs.Laws.{has-empty}
-use Rattle.model.specs.Walk.{Choice, Walked, found, endless, stopped, after, or-else, tried, visited, walked, children, needed}
+use Rattle.model.specs.Walk.{Choice, Walked, found, endless, stopped, after, or-else, tried, visited, walked, needed}
 use Rattle.model.specs.Model.{service, then}
 use Rattle.model.proofs.Sound.{some-point}
 use Rattle.model.specs.declared.State.{State}
@@ -20,8 +19,7 @@ use Rattle.model.specs.declared.Event.{Event}
 use Rattle.records.specs.Records.{record-at, observation-of, observed, observations}
 use Rattle.walk.specs.Choices.{event-of, slot, choices-in, Possible}
 use Rattle.walk.specs.Steps.{laid, laid-in, left-of, room-after, deeper}
-use Rattle.walk.specs.declared.Seen.{Seen}
-use Rattle.walk.specs.declared.Seen.the-variants.{Found, Nothing, Spent, Deep}
+use Rattle.walk.specs.declared.Seen.the-variants.{Found, Nothing, Spent}
 use Rattle.walk.proofs.Left.{Some, left-inside, room-inside}
 use Rattle.walk.proofs.Sets.{lowest-first, none-in-empty, set-of-children}
 

@@ -4,15 +4,15 @@ use mathlib.Core.Bool.{Bool, true, false, cond}
 use mathlib.Core.List.{List, [], _∷_, _++_, append-assoc}
 use mathlib.Core.Path.{_≡_, refl, sym, ap, ap₂, _∙_, subst}
 use Prim.Native.Nat.{ℕ, zero, suc, _+_, _-_, _*_, _/_, _≤_, _<_}
-use native.Mathlib.Nat.{mul-zero, div-lt-iff-lt-mul, mul-comm, le-of-eq, add-zero, zero-add}
+use native.Mathlib.Nat.{mul-zero, div-lt-iff-lt-mul, add-zero, zero-add}
 use native.Mathlib.Decide.{decLt}
 use native.Mathlib.Omega.{arith}
 use lib.Dec.{leb, ltb}
-use lib.ListN.{length, take, drop, length-drop, length-take, take-append-drop, length-append}
+use lib.ListN.{length, take, drop, length-drop, take-append-drop}
 use lib.Seq.{drop-drop, drop-append-le, length-take-le}
 use borrow.Rule.Slice.PartMut.{same-len-mid}
 use borrow.Author.Tests.{lt-ltb, le-ltb, ltb-false, leb-true}
-use Rattle.model.specs.Walk.{Walked, found, endless, stopped, walked, Outcome, explained, unexplained, undecided, too-deep, cut, needed}
+use Rattle.model.specs.Walk.{Walked, found, endless, stopped, walked, Outcome, explained, unexplained, undecided, too-deep, cut}
 use Rattle.model.specs.Model.{service, first-state, writes, depth, walk, outcome}
 use Rattle.model.proofs.Sound.{found-within, some-point}
 use Rattle.model.proofs.Budget.{none-for-nothing}

@@ -1,7 +1,7 @@
 -- The choices of a point as one set of numbers, in document 01's order: 0 is the next observation, 1 to 8 are the UPs at
 -- tablets 1 to 8, and from 9 on the DOWNs at tablets 1, 2 and so on.
-use Prim.Native.Nat.{ℕ, zero, suc, _+_, _-_, _≤_, _<_, _^_}
-use mathlib.Core.Bool.{Bool, cond}
+use Prim.Native.Nat.{ℕ, zero, suc, _+_, _-_, _<_, _^_}
+use mathlib.Core.Bool.{cond}
 use mathlib.Core.List.{List, [], _∷_}
 use mathlib.Core.Path.{_≡_}
 use lib.Dec.{leb, eqb}

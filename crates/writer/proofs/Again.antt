@@ -1,13 +1,13 @@
 -- A good file written again from what was read is the same bytes, and the writer accepts it.
 -- Assumes nothing.
-use mathlib.Core.Bool.{Bool, true, false, cond, not, _||_}
+use mathlib.Core.Bool.{Bool, true, false, cond}
 use mathlib.Core.List.{List, [], _∷_, _++_}
 use mathlib.Core.Path.{_≡_, refl, sym, ap, ap₂, _∙_, subst}
 use Prim.Native.Nat.{ℕ, zero, suc, _+_, _-_, _*_, _/_, _%_, _≤_, _<_}
 use native.Mathlib.Nat.{zero-add, add-zero, mod-eq-of-lt}
 use native.Mathlib.Decide.{decLt}
 use native.Mathlib.Omega.{arith}
-use lib.Dec.{ltb, eqb}
+use lib.Dec.{ltb}
 use lib.ListN.{length, drop, length-drop}
 use lib.Pow.{areBytes}
 use Rattle.model.proofs.Sound.{and-true}
@@ -17,9 +17,9 @@ use Rattle.records.specs.Records.{record-at, keeps-row}
 use Rattle.records.proofs.Numbers.{number-2}
 use Rattle.tracefile.specs.Refusals.{Answer, accepted}
 use Rattle.tracefile.specs.Refusals as R
-use Rattle.tracefile.specs.File.{tablets-in, values-in, bodies-in, outside, entry, offset-in, count-in, body-size, bad-entry, entries, in-body, in-bodies, records, check}
-use Rattle.tracefile.proofs.Good.{passed, good-entry, good-contents, good-file, Head, File}
-use Rattle.writer.specs.Written.{Result, wrote, refused, two-bytes, entries-of, file-of, file-size, sum, over, bad-record, fitted, rows-then-room, write}
+use Rattle.tracefile.specs.File.{tablets-in, values-in, bodies-in, entry, offset-in, count-in, body-size, bad-entry, entries, in-body, in-bodies, records, check}
+use Rattle.tracefile.proofs.Good.{passed, good-entry, good-contents, good-file, File}
+use Rattle.writer.specs.Written.{Result, wrote, refused, two-bytes, entries-of, file-of, file-size, sum, over, bad-record, fitted, write}
 use Rattle.writer.specs.RoundTrip.{counts-from, counts-in}
 use Rattle.writer.proofs.Laid.{Rows}
 use Rattle.records.proofs.Parts.{record-drop}

@@ -2,22 +2,22 @@
 -- Assumes nothing.
 use mathlib.Core.Bool.{Bool, true, false, cond, not, _||_}
 use mathlib.Core.List.{List, [], _∷_, _++_}
-use mathlib.Core.Path.{_≡_, refl, sym, ap, ap₂, _∙_, subst}
+use mathlib.Core.Path.{_≡_, refl, sym, ap, ap₂, _∙_}
 use Prim.Native.Nat.{ℕ, zero, suc, _+_, _-_, _*_, _/_, _≤_, _<_}
 use native.Mathlib.Nat.{add-sub-cancel, zero-add, add-zero}
 use native.Mathlib.Omega.{arith}
 use lib.Dec.{ltb, eqb}
-use lib.ListN.{length, take, drop, length-append, length-drop}
+use lib.ListN.{length, take, drop, length-append}
 use lib.Seq.{drop-drop}
 use borrow.Author.Tests.{le-ltb, eq-eqb, eqb-true, ltb-false, not-false}
 use Rattle.records.specs.Bytes.{byte}
 use Rattle.records.specs.Records.{record-at, keeps-row}
-use Rattle.tracefile.specs.Refusals.{Answer, accepted, and-then}
+use Rattle.tracefile.specs.Refusals.{accepted}
 use Rattle.tracefile.specs.Refusals as R
-use Rattle.tracefile.specs.File.{tablets-in, values-in, bodies-in, outside, entry, offset-in, count-in, body-size, head, contents, entries, records, in-bodies, check, check-trace, asked}
+use Rattle.tracefile.specs.File.{tablets-in, values-in, bodies-in, outside, entry, offset-in, count-in, body-size, head, contents, records, check, check-trace}
 use Rattle.tracefile.proofs.Loops.{or-false}
 use Rattle.tracefile.proofs.Good.{inside, asked-part}
-use Rattle.writer.specs.Written.{Result, wrote, refused, entries-of, file-of, file-size, sum, over, bad-record, fitted, rows-then-room, write}
+use Rattle.writer.specs.Written.{Result, wrote, refused, entries-of, file-of, file-size, sum, over, bad-record, fitted, write}
 use Rattle.writer.specs.RoundTrip.{counts-from, counts-in, bodies-from, read-bodies, parted}
 use Rattle.writer.proofs.Laid.{later, few, first-entry, entries-good, Rows, bodies-good}
 use Rattle.records.proofs.Parts.{record-drop}

@@ -1,22 +1,21 @@
 -- How a written file lies in bytes: each entry where it belongs, then the records.
 -- Assumes nothing.
-use mathlib.Core.Bool.{Bool, true, false, cond, not, _||_}
-use mathlib.Core.List.{List, [], _∷_, _++_, append-assoc}
-use mathlib.Core.Path.{_≡_, refl, sym, ap, ap₂, _∙_, subst}
-use Prim.Native.Nat.{ℕ, zero, suc, _+_, _-_, _*_, _/_, _%_, _≤_, _<_}
-use native.Mathlib.Nat.{add-zero, add-assoc, zero-add}
-use native.Mathlib.Numerals.{add-one}
+use mathlib.Core.Bool.{Bool, true, false, cond}
+use mathlib.Core.List.{List, [], _∷_, _++_}
+use mathlib.Core.Path.{_≡_, refl, sym, ap, ap₂, _∙_}
+use Prim.Native.Nat.{ℕ, zero, suc, _+_, _*_, _/_, _%_, _≤_, _<_}
+use native.Mathlib.Nat.{add-zero}
 use native.Mathlib.Omega.{arith}
-use lib.Dec.{leb, ltb, eqb}
-use lib.ListN.{length, getD, take, drop, length-append, length-drop}
-use lib.Seq.{getD-drop, drop-drop, drop-append-add, take-append-seam}
-use borrow.Author.Tests.{le-leb, lt-leb, le-ltb, eq-eqb, ltb-false}
+use lib.Dec.{ltb}
+use lib.ListN.{length, getD, drop}
+use lib.Seq.{getD-drop, drop-drop, drop-append-add}
+use borrow.Author.Tests.{le-ltb, eq-eqb, ltb-false}
 use Rattle.records.specs.Bytes.{byte, number}
 use Rattle.records.specs.Records.{record-at, keeps-row}
 use Rattle.records.proofs.Numbers.{number-2}
 use Rattle.tracefile.proofs.Loops.{or-false}
-use Rattle.tracefile.specs.Refusals.{Answer, accepted, refused, and-then}
-use Rattle.tracefile.specs.File.{tablets-in, values-in, bodies-in, entry, offset-in, count-in, body-size, bad-entry, entries, in-body, in-bodies}
+use Rattle.tracefile.specs.Refusals.{Answer, accepted, refused}
+use Rattle.tracefile.specs.File.{tablets-in, values-in, entry, offset-in, count-in, body-size, bad-entry, entries, in-body, in-bodies}
 use Rattle.writer.specs.Written.{entries-of, two-bytes, sum, over}
 
 -- two bytes of a number, read back

@@ -2,11 +2,10 @@
 -- measure is what is left to pass.
 -- Assumes nothing.
 use borrow.Author.Needs.{needs}
-use mathlib.Core.Bool.{Bool, true, not, _&&_}
 use mathlib.Core.Path.{_≡_, refl, sym, ap, _∙_}
-use Prim.Native.Nat.{ℕ, _-_, _+_, _≤_}
+use Prim.Native.Nat.{ℕ, _-_, _≤_}
 use native.Mathlib.Omega.{arith}
-use Rattle.model.specs.Model.{seats, tablets, up-to, every, fresh-and-clean, all-fresh-and-clean}
+use Rattle.model.specs.Model.{seats, up-to, every, fresh-and-clean, all-fresh-and-clean}
 use Rattle.events.proofs.Settled.{every-more}
 use Rattle.events.proofs.tablets.all_settled.Statement.{statement}
 use Rattle.events.proofs.tablets.all_settled.Tie as tie

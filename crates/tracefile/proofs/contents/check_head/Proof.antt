@@ -1,6 +1,5 @@
 -- `tracefile::contents::check_head` meets its contract: the tests of the code are those of the definition, in its order.
 -- Assumes nothing.
-use native.Mathlib.Omega.{arith}
 use borrow.Author.Tests.{eq-eqb, ne-eqb}
 use Rattle.tracefile.specs.File.{head}
 use lib.Dec.{lit<}

@@ -1,10 +1,9 @@
 -- `tracefile::contents::check_records` meets its contract: the bodies and their records are gone through as the definition
 -- does. The measures are what is left of each.
 -- Assumes nothing.
-use borrow.Author.Needs.{needs}
-use mathlib.Core.Bool.{true, false, not}
+use mathlib.Core.Bool.{true, false}
 use mathlib.Core.Logic.{⊎-elim}
-use mathlib.Core.Path.{_≡_, refl, sym, ap, _∙_}
+use mathlib.Core.Path.{_≡_, refl, sym, _∙_}
 use Prim.Native.Nat.{ℕ, _+_, _-_, _*_, _≤_}
 use native.Mathlib.Omega.{arith}
 use borrow.Author.Tests.{not-true, not-false}

@@ -1,12 +1,12 @@
 -- `walk::rooms::count_writes` meets its contract: the count so far, and the writes of what is left. The measure is what is left.
 -- Assumes nothing.
-use mathlib.Core.Path.{_≡_, refl, sym, _∙_}
+use mathlib.Core.Path.{_≡_, sym}
 use Prim.Native.Nat.{_+_, _-_, _≤_}
 use native.Mathlib.Nat.{zero-add}
 use native.Mathlib.Omega.{arith}
 use lib.ListN.{length, drop}
 use Rattle.model.specs.Model.{writes}
-use Rattle.records.specs.Records.{observations, observation-of, record-at}
+use Rattle.records.specs.Records.{observations}
 use Rattle.walk.proofs.Whole.{once-at-most, writes-on, writes-done}
 use Rattle.walk.proofs.rooms.count_writes.Statement.{statement}
 use Rattle.walk.proofs.rooms.count_writes.Tie as tie
