@@ -56,16 +56,18 @@ pub fn others_stale(fresh: u8, tablet: u8) -> u8
     left
 }
 
-// Whether every tablet is fresh and clean, asked of one tablet after the other.
+// Whether every tablet is fresh and clean, asked of one tablet after the other up to the first that is not.
 pub fn all_settled(n: u8, fresh: u8, dirty: u8) -> bool
     ensures { λ r. ⌜ r ≡ all-fresh-and-clean n fresh dirty ⌝ }
 {
     let count = seats_of(n);
-    let mut so_far = true;
     let mut passed = 0u8;
     while passed < count {
         passed += 1;
-        so_far = so_far & (marked(fresh, passed) & !marked(dirty, passed));
+        let settled = marked(fresh, passed) & !marked(dirty, passed);
+        if !settled {
+            return false;
+        }
     }
-    so_far
+    true
 }

@@ -10,9 +10,8 @@ use native.Mathlib.Omega.{arith}
 use lib.Dec.{leb, ltb}
 use lib.ListN.{length, take, drop, length-drop, take-append-drop}
 use lib.Seq.{drop-drop, drop-append-le, length-take-le}
-use borrow.Rule.Slice.PartMut.{same-len-mid}
 use borrow.Author.Tests.{lt-ltb, le-ltb, ltb-false, leb-true}
-use Rattle.model.specs.Walk.{Walked, found, endless, stopped, walked, Outcome, explained, unexplained, undecided, too-deep, cut}
+use Rattle.model.specs.Walk.{Walked, found, endless, stopped, tried, walked, Outcome, explained, unexplained, undecided, too-deep, cut}
 use Rattle.model.specs.Model.{service, first-state, writes, depth, walk, outcome}
 use Rattle.model.proofs.Sound.{found-within, some-point}
 use Rattle.model.proofs.Budget.{none-for-nothing}
@@ -23,12 +22,13 @@ use Rattle.model.specs.declared.Event.{Event}
 use Rattle.records.specs.Records.{record-at, observation-of, observed, observations}
 use Rattle.records.proofs.Parts.{record-drop}
 use Rattle.records.specs.declared.Record.{Record}
-use Rattle.walk.specs.Steps.{laid, laid-in, left-of, room-after, answer-of, outcome-in, answered, room-answered}
+use Rattle.walk.specs.Choices.{choices-in, Possible}
+use Rattle.walk.specs.Steps.{laid, laid-in, left-of, room-after, deeper, answer-of, outcome-in, answered, room-answered}
 use Rattle.walk.specs.declared.Seen.{Seen}
 use Rattle.walk.specs.declared.Seen.the-variants.{Found, Nothing, Spent, Deep}
 use Rattle.walk.specs.declared.Answer.{Answer}
 use Rattle.walk.specs.declared.Answer.the-variants.{Explained, Unexplained, Undecided, TooDeep, NoRoom}
-use Rattle.walk.proofs.Visits.{observed-on, observed-end}
+use Rattle.walk.proofs.Visits.{observed-on, observed-end, end-left, end-room, visit-left, visit-room}
 
 -- ---- the observations and the writes of a body
 
@@ -208,15 +208,24 @@ module _ (n budget : ℕ) (body room : List ℕ) (writes-in : ℕ) (counted : wr
         ∙ room-by budget limit (walked (service n) (depth n obs) (first-state n) obs) room fits
         (λ k es q. let f = found-within (service n) (depth n obs) (first-state n) obs k es q in let i = is-depth in omega arith))
 
-    -- the root has been visited
-    pub visited : (budget ≡ 0 → ⊥) → (s : State) → s ≡ first-state n → (seen known : Seen) (last : List ℕ)
-        → seen ≡ left-of (budget - 1 + 1) (walked (service n) (length (take (limit - 0) (drop 0 room)) / 2) s obs)
-        → last ≡ room-after (budget - 1 + 1) (walked (service n) (length (take (limit - 0) (drop 0 room)) / 2) s obs) (take (limit - 0) (drop 0 room))
+    -- the root is an end
+    pub root-end : (budget ≡ 0 → ⊥) → length body < 12 → Done (Explained 1 0) room
+    root-end z h =
+        let part = take (limit - 0) (drop 0 room) in
+        let e = from-first z (Found (budget - 1) 0) part (end-left n (length part / 2) (budget - 1) (first-state n) body h) (end-room n (length part / 2) (budget - 1) (first-state n) body part h) in
+        let one : budget - (budget - 1) ≡ 1 = omega arith in
+        (ap (λ (x : ℕ). Explained x 0) (sym one) ∙ e .0, sym (take-append-drop (limit - 0) room) ∙ e .1)
+
+    -- the root's choices have been tried
+    pub root-tried : (budget ≡ 0 → ⊥) → 12 ≤ length body → (s : State) → s ≡ first-state n → (set : ℕ) → Possible n s (observation-of (record-at body 0)) set → (seen known : Seen) (last : List ℕ)
+        → seen ≡ left-of (budget - 1) (tried (service n) (deeper n (length (take (limit - 0) (drop 0 room)) / 2) s) (choices-in set obs))
+        → last ≡ room-after (budget - 1) (tried (service n) (deeper n (length (take (limit - 0) (drop 0 room)) / 2) s) (choices-in set obs)) (take (limit - 0) (drop 0 room))
         → seen ≡ known → Done (answer-by budget known) (take 0 room ++ (last ++ drop (limit - 0) (drop 0 room)))
-    visited z s q seen known last e g h =
+    root-tried z long s q set p seen known last e g h =
+        let part = take (limit - 0) (drop 0 room) in
         subst (λ (x : Seen). Done (answer-by budget x) (take 0 room ++ (last ++ drop (limit - 0) (drop 0 room)))) h
-        (from-first z seen last (e ∙ ap (λ (x : State). left-of (budget - 1 + 1) (walked (service n) (length (take (limit - 0) (drop 0 room)) / 2) x obs)) q)
-        (g ∙ ap (λ (x : State). room-after (budget - 1 + 1) (walked (service n) (length (take (limit - 0) (drop 0 room)) / 2) x obs) (take (limit - 0) (drop 0 room))) q))
+        (from-first z seen last (e ∙ visit-left n (length part / 2) set (budget - 1) s body long p ∙ ap (λ (x : State). left-of (budget - 1 + 1) (walked (service n) (length part / 2) x obs)) q)
+        (g ∙ visit-room n (length part / 2) set (budget - 1) s body part long p ∙ ap (λ (x : State). room-after (budget - 1 + 1) (walked (service n) (length part / 2) x obs) part) q))
 
 -- what is left is no more than there was
 abbrev Left : ℕ → Seen → Type 0
@@ -243,12 +252,8 @@ left-few b (stopped k) = go (ltb k b)
     go true = tt
     go false = tt
 
-pub found-left : (b l k : ℕ) (seen : Seen) (w : Walked Event) → (b ≡ 0 → ⊥) → seen ≡ left-of (b - 1 + 1) w → seen ≡ Found l k → l ≤ b
-found-left b l k seen w z e g = let h = subst (Left (b - 1 + 1)) (sym e ∙ g) (left-few (b - 1 + 1) w) in omega arith
+pub found-left : (b l k : ℕ) (seen : Seen) (w : Walked Event) → seen ≡ left-of (b - 1) w → seen ≡ Found l k → l ≤ b
+found-left b l k seen w e g = let h = subst (Left (b - 1)) (sym e ∙ g) (left-few (b - 1) w) in omega arith
 
-pub nothing-left : (b l : ℕ) (seen : Seen) (w : Walked Event) → (b ≡ 0 → ⊥) → seen ≡ left-of (b - 1 + 1) w → seen ≡ Nothing l → l ≤ b
-nothing-left b l seen w z e g = let h = subst (Left (b - 1 + 1)) (sym e ∙ g) (left-few (b - 1 + 1) w) in omega arith
-
--- the room is as long as it was
-pub same-whole : (room last : List ℕ) (limit : ℕ) → length last ≡ length (take (limit - 0) (drop 0 room)) → length (take 0 room ++ (last ++ drop (limit - 0) (drop 0 room))) ≡ length room
-same-whole room last limit h = same-len-mid 0 (limit - 0) room last h
+pub nothing-left : (b l : ℕ) (seen : Seen) (w : Walked Event) → seen ≡ left-of (b - 1) w → seen ≡ Nothing l → l ≤ b
+nothing-left b l seen w e g = let h = subst (Left (b - 1)) (sym e ∙ g) (left-few (b - 1) w) in omega arith

@@ -53,7 +53,7 @@ fn visit(n: u8, body: &[u8], state: State, left: u32, room: &mut [u8]) -> Seen
     choose(n, body, state, choices, left, room)
 }
 
-// Tries the choices of a point, the lowest first.
+// Tries the choices of a point, the lowest first. Where none are left there is no call for them: it would take a frame.
 fn choose(n: u8, body: &[u8], state: State, choices: u64, left: u32, room: &mut [u8]) -> Seen
     ensures result { λ r. ⌜ r ≡ left-of left (tried (service n) (deeper n (length (now (room .entry)) / 2) state) (choices-in choices (observations (now (body .entry))))) ⌝ }
     ensures room { λ r. ⌜ now (room .exit) ≡ room-after left (tried (service n) (deeper n (length (now (room .entry)) / 2) state) (choices-in choices (observations (now (body .entry))))) (now (room .entry)) ⌝ }
@@ -73,16 +73,18 @@ fn choose(n: u8, body: &[u8], state: State, choices: u64, left: u32, room: &mut 
     let pick = marks::lowest64(choices);
     let next = after(body, state, pick);
     let skip = used(pick);
-    let kind = kind_at(body, pick);
-    let tablet = tablet_at(body, pick);
     match visit(n, &body[skip..], next, left - 1, &mut room[2..]) {
         Seen::Found(rest, events) => {
-            room[0] = kind;
-            room[1] = tablet;
+            room[0] = kind_at(body, pick);
+            room[1] = tablet_at(body, pick);
             Seen::Found(rest, events + 1)
         }
         Seen::Nothing(rest) => {
-            choose(n, body, state, marks::remove64(choices, pick), rest, room)
+            let others = marks::remove64(choices, pick);
+            if others == 0 {
+                return Seen::Nothing(rest);
+            }
+            choose(n, body, state, others, rest, room)
         }
         Seen::Spent => Seen::Spent,
         Seen::Deep => Seen::Deep,
@@ -103,7 +105,13 @@ pub fn walk(n: u8, body: &[u8], budget: u32, room: &mut [u8]) -> Answer
         return Answer::Undecided;
     }
     let limit = 2 * (t + (n as usize) * w);
-    match visit(n, body, events::first(n), budget - 1, &mut room[0..limit]) {
+    // The root is visited here. Then `visit` is called by `choose` alone, becomes a part of it, and an event takes one frame.
+    if body.len() < 12 {
+        return Answer::Explained(1, 0);
+    }
+    let first = events::first(n);
+    let choices = possible(n, body, first);
+    match choose(n, body, first, choices, budget - 1, &mut room[0..limit]) {
         Seen::Found(left, events) => Answer::Explained(budget - left, events),
         Seen::Nothing(left) => Answer::Unexplained(budget - left),
         Seen::Spent => Answer::Undecided,

@@ -1,3 +1,6 @@
+-- `walk::choose` and `walk::visit` meet their contracts. They call each other: with each visit the room is two bytes shorter,
+-- with each further choice the set of choices is smaller.
+-- Assumes nothing.
 use Prim.Native.Nat.{ℕ, _+_, _*_, _^_, _<_}
 use mathlib.Core.Path.{_∙_}
 use native.Mathlib.Nat.{le-refl}
@@ -51,12 +54,12 @@ choose-claims t = (
   after-reads.Learnt,
   used-reads.Asked,
   used-reads.Learnt,
+  visit-below t,
+  visit.Post,
   kind-at-reads.Asked,
   kind-at-reads.Learnt,
   tablet-at-reads.Asked,
   tablet-at-reads.Learnt,
-  visit-below t,
-  visit.Post,
   remove64-reads.Asked,
   remove64-reads.Learnt,
   choose-below t,
@@ -64,7 +67,12 @@ choose-claims t = (
 )
 
 abbrev visit-claims : ℕ → visit-lts.Claims
-visit-claims t = (possible-reads.Asked, possible-reads.Learnt, choose-below t, choose.Post)
+visit-claims t = (
+  possible-reads.Asked,
+  possible-reads.Learnt,
+  choose-below t,
+  choose.Post,
+)
 
 choose-returns : (t : ℕ) → choose-lts.Need-returns (choose-claims t) (choose-at t) choose.Post
 choose-returns t c = at-end _ _ _ _ _ _ (c .if1 .taken)
@@ -87,17 +95,11 @@ choose-after-requires t c κs = tt
 choose-used-requires : (t : ℕ) → choose-lts.Need-used-requires (choose-claims t) (choose-at t) choose.Post
 choose-used-requires t c κs = tt
 
-choose-kind-at-requires : (t : ℕ) → choose-lts.Need-kind-at-requires (choose-claims t) (choose-at t) choose.Post
-choose-kind-at-requires t c κs = tt
-
-choose-tablet-at-requires : (t : ℕ) → choose-lts.Need-tablet-at-requires (choose-claims t) (choose-at t) choose.Post
-choose-tablet-at-requires t c κs = tt
-
 choose-sub-visit : (t : ℕ) → choose-lts.Need-sub-visit (choose-claims t) (choose-at t) choose.Post
-choose-sub-visit t c = skip-within _ (eqb (c .before .before .before .before .lowest64 .result) 0) _ (c .before .before .used .ensures) (c .before .before .before .before .before .before .before .before .if1 .left)
+choose-sub-visit t c = skip-within _ (eqb (c .before .before .lowest64 .result) 0) _ (c .used .ensures) (c .before .before .before .before .before .before .if1 .left)
 
 choose-part-visit-start : (t : ℕ) → choose-lts.Need-part-visit-start (choose-claims t) (choose-at t) choose.Post
-choose-part-visit-start t c = skip-within _ (eqb (c .before .before .before .before .lowest64 .result) 0) _ (c .before .before .used .ensures) (c .before .before .before .before .before .before .before .before .if1 .left)
+choose-part-visit-start t c = skip-within _ (eqb (c .before .before .lowest64 .result) 0) _ (c .used .ensures) (c .before .before .before .before .before .before .if1 .left)
 
 choose-part-visit-end : (t : ℕ) → choose-lts.Need-part-visit-end (choose-claims t) (choose-at t) choose.Post
 choose-part-visit-end t c = le-refl _
@@ -106,28 +108,34 @@ choose-sub-visit-2 : (t : ℕ) → choose-lts.Need-sub-visit-2 (choose-claims t)
 choose-sub-visit-2 t c = omega arith
 
 choose-sub-visit-3 : (t : ℕ) → choose-lts.Need-sub-visit-3 (choose-claims t) (choose-at t) choose.Post
-choose-sub-visit-3 t c = c .before .before .before .before .before .before .if4 .left
+choose-sub-visit-3 t c = c .before .before .before .before .if4 .left
 
 choose-part-visit-start-2 : (t : ℕ) → choose-lts.Need-part-visit-start-2 (choose-claims t) (choose-at t) choose.Post
-choose-part-visit-start-2 t c = c .before .before .before .before .before .before .if4 .left
+choose-part-visit-start-2 t c = c .before .before .before .before .if4 .left
 
 choose-part-visit-end-2 : (t : ℕ) → choose-lts.Need-part-visit-end-2 (choose-claims t) (choose-at t) choose.Post
 choose-part-visit-end-2 t c = le-refl _
 
 choose-visit-requires : (t : ℕ) → choose-lts.Need-visit-requires (choose-claims t) (choose-at t) choose.Post
-choose-visit-requires t c κs = (visit-falls (2 ^ 64) _ _ _ t (c .before .before .before .before .before .before .before .before .before .before .before .before .before .pre .0) (c .before .before .before .before .before .before .before .if4 .left) (part-length (c .before .before .before .before .before .before .before .before .before .before .before .before .before .args .room .now) 2) (lit< tt), tt)
+choose-visit-requires t c κs = (visit-falls (2 ^ 64) _ _ _ t (c .before .before .before .before .before .before .before .before .before .before .before .pre .0) (c .before .before .before .before .before .if4 .left) (part-length (c .before .before .before .before .before .before .before .before .before .before .before .args .room .now) 2) (lit< tt), tt)
 
 choose-enum-known-rest : (t : ℕ) → choose-lts.Need-enum-known-rest (choose-claims t) (choose-at t) choose.Post
 choose-enum-known-rest t c = search needs
 
+choose-kind-at-requires : (t : ℕ) → choose-lts.Need-kind-at-requires (choose-claims t) (choose-at t) choose.Post
+choose-kind-at-requires t c κs = tt
+
 choose-slice-write-room : (t : ℕ) → choose-lts.Need-slice-write-room (choose-claims t) (choose-at t) choose.Post
-choose-slice-write-room t c = written-within 0 _ _ (same-after (c .before .before .before .before .before .before .before .before .before .before .before .before .before .before .before .before .before .before .before .args .room .now) (c .before .before .before .before .before .visit .last .1 .1 .1 .1 .0) (c .before .before .before .before .before .visit .kept .1 .1 .1 .1 .0)) (c .before .before .before .before .before .before .before .before .before .before .before .before .before .if4 .left) (lit< tt)
+choose-slice-write-room t c = written-within _ _ _ (same-after (c .before .before .before .before .before .before .before .before .before .before .before .before .before .before .before .before .before .before .args .room .now) (c .before .before .before .before .before .before .visit .last .1 .1 .1 .1 .0) (c .before .before .before .before .before .before .visit .kept .1 .1 .1 .1 .0)) (c .before .before .before .before .before .before .before .before .before .before .before .before .if4 .left) (lit< tt)
+
+choose-tablet-at-requires : (t : ℕ) → choose-lts.Need-tablet-at-requires (choose-claims t) (choose-at t) choose.Post
+choose-tablet-at-requires t c κs = tt
 
 choose-slice-write-room-2 : (t : ℕ) → choose-lts.Need-slice-write-room-2 (choose-claims t) (choose-at t) choose.Post
-choose-slice-write-room-2 t c = simp length-set (written-within 1 _ _ (same-after (c .before .before .before .before .before .before .before .before .before .before .before .before .before .before .before .before .before .before .before .args .room .now) (c .before .before .before .before .before .visit .last .1 .1 .1 .1 .0) (c .before .before .before .before .before .visit .kept .1 .1 .1 .1 .0)) (c .before .before .before .before .before .before .before .before .before .before .before .before .before .if4 .left) (lit< tt))
+choose-slice-write-room-2 t c = simp length-set (written-within _ _ _ (same-after (c .before .before .before .before .before .before .before .before .before .before .before .before .before .before .before .before .before .before .before .args .room .now) (c .before .before .before .before .before .before .before .visit .last .1 .1 .1 .1 .0) (c .before .before .before .before .before .before .before .visit .kept .1 .1 .1 .1 .0)) (c .before .before .before .before .before .before .before .before .before .before .before .before .before .if4 .left) (lit< tt))
 
 choose-add-t29 : (t : ℕ) → choose-lts.Need-add-t29 (choose-claims t) (choose-at t) choose.Post
-choose-add-t29 t c = record { fits = one-event-more _ _ _ (events-few _ _ _ _ _ _ _ _ (c .before .before .before .before .before .visit .ensures .0) (c .before .rest .given .1)) (part-length (c .before .before .before .before .before .before .before .before .before .before .before .before .before .before .before .before .before .before .before .args .room .now) 2) (c .before .before .before .before .before .before .before .before .before .before .before .before .before .before .before .before .before .before .before .good .1 .1 .1 .1 .1 .0 .0) }
+choose-add-t29 t c = record { fits = one-event-more _ _ _ (events-few _ _ _ _ _ _ _ _ (c .before .before .before .before .before .before .before .visit .ensures .0) (c .before .before .before .rest .given .1)) (part-length (c .before .before .before .before .before .before .before .before .before .before .before .before .before .before .before .before .before .before .before .args .room .now) 2) (c .before .before .before .before .before .before .before .before .before .before .before .before .before .before .before .before .before .before .before .good .1 .1 .1 .1 .1 .0 .0) }
 
 choose-enum-known-rest-2 : (t : ℕ) → choose-lts.Need-enum-known-rest-2 (choose-claims t) (choose-at t) choose.Post
 choose-enum-known-rest-2 t c = search needs
@@ -135,8 +143,14 @@ choose-enum-known-rest-2 t c = search needs
 choose-remove64-requires : (t : ℕ) → choose-lts.Need-remove64-requires (choose-claims t) (choose-at t) choose.Post
 choose-remove64-requires t c κs = tt
 
+choose-same-length : (t : ℕ) → choose-lts.Need-same-length (choose-claims t) (choose-at t) choose.Post
+choose-same-length t c = same-after (c .before .before .before .before .before .before .before .before .before .before .before .before .before .before .before .before .before .before .before .args .room .now) (c .before .before .before .before .before .before .before .visit .last .1 .1 .1 .1 .0) (c .before .before .before .before .before .before .before .visit .kept .1 .1 .1 .1 .0)
+
+choose-returns-5 : (t : ℕ) → choose-lts.Need-returns-5 (choose-claims t) (choose-at t) choose.Post
+choose-returns-5 t c = others-tried _ _ _ _ _ (c .before .before .before .before .before .before .before .before .before .before .before .before .before .before .before .before .before .before .before .args .room .now) (c .before .before .before .before .before .before .before .before .before .before .before .before .before .before .before .before .if1 .left) (c .before .before .before .before .before .before .before .before .before .before .before .before .before .before .before .before .before .before .before .fits .choices .fits) (c .before .before .before .before .before .before .before .before .before .before .before .before .before .before .before .if2 .left) (c .before .before .before .before .before .before .before .before .before .before .before .before .before .before .if3 .left) (c .before .before .before .before .before .before .before .before .before .before .before .before .before .if4 .left) _ _ _ _ _ (c .before .before .before .before .before .before .before .before .before .before .before .before .lowest64 .ensures) (c .before .before .before .before .before .before .before .before .before .before .before .after .ensures) (c .before .before .before .before .before .before .before .before .before .before .used .ensures) (c .before .before .before .before .before .before .before .visit .ensures .0) (c .before .before .before .before .before .before .before .visit .ensures .1) _ _ _ _ (c .before .before .before .rest2 .given .1) (c .before .remove64 .ensures) (no-choice _ _ _ _ _ _ (c .if5 .taken))
+
 choose-choose-requires : (t : ℕ) → choose-lts.Need-choose-requires (choose-claims t) (choose-at t) choose.Post
-choose-choose-requires t c κs = (choice-falls (2 ^ 64) _ _ _ _ t (c .before .before .before .before .before .before .before .before .before .before .before .before .before .before .before .before .before .before .before .before .before .pre .0) (same-after (c .before .before .before .before .before .before .before .before .before .before .before .before .before .before .before .before .before .before .before .before .before .args .room .now) (c .before .before .before .before .before .before .before .visit .last .1 .1 .1 .1 .0) (c .before .before .before .before .before .before .before .visit .kept .1 .1 .1 .1 .0)) (fewer _ _ _ (c .before .before .before .before .before .before .before .before .before .before .before .before .before .before .before .before .before .before .before .before .before .fits .choices .fits) (c .before .before .before .before .before .before .before .before .before .before .before .before .before .before .before .before .before .if2 .left) (c .before .before .before .before .before .before .before .before .before .before .before .before .before .before .lowest64 .ensures) (c .before .remove64 .ensures)), tt)
+choose-choose-requires t c κs = (choice-falls (2 ^ 64) _ _ _ _ t (c .before .before .before .before .before .before .before .before .before .before .before .before .before .before .before .before .before .before .before .before .pre .0) (same-after (c .before .before .before .before .before .before .before .before .before .before .before .before .before .before .before .before .before .before .before .before .args .room .now) (c .before .before .before .before .before .before .before .before .visit .last .1 .1 .1 .1 .0) (c .before .before .before .before .before .before .before .before .visit .kept .1 .1 .1 .1 .0)) (fewer _ _ _ (c .before .before .before .before .before .before .before .before .before .before .before .before .before .before .before .before .before .before .before .before .fits .choices .fits) (c .before .before .before .before .before .before .before .before .before .before .before .before .before .before .before .before .if2 .left) (c .before .before .before .before .before .before .before .before .before .before .before .before .before .lowest64 .ensures) (c .before .before .remove64 .ensures)), tt)
 
 choose-enum-told : (t : ℕ) → choose-lts.Need-enum-told (choose-claims t) (choose-at t) choose.Post
 choose-enum-told t c = search needs
@@ -144,29 +158,29 @@ choose-enum-told t c = search needs
 choose-enum-told-2 : (t : ℕ) → choose-lts.Need-enum-told-2 (choose-claims t) (choose-at t) choose.Post
 choose-enum-told-2 t c = search needs
 
-choose-same-length : (t : ℕ) → choose-lts.Need-same-length (choose-claims t) (choose-at t) choose.Post
-choose-same-length t c = simp length-set (same-after (c .before .before .before .before .before .before .before .before .before .before .before .before .before .before .before .before .before .before .before .args .room .now) (c .before .before .before .before .before .visit .last .1 .1 .1 .1 .0) (c .before .before .before .before .before .visit .kept .1 .1 .1 .1 .0))
-
-choose-returns-5 : (t : ℕ) → choose-lts.Need-returns-5 (choose-claims t) (choose-at t) choose.Post
-choose-returns-5 t c = end-found _ _ _ _ _ (c .before .before .before .before .before .before .before .before .before .before .before .before .before .before .before .before .before .before .before .args .room .now) (c .before .before .before .before .before .before .before .before .before .before .before .before .before .before .before .before .if1 .left) (c .before .before .before .before .before .before .before .before .before .before .before .before .before .before .before .before .before .before .before .fits .choices .fits) (c .before .before .before .before .before .before .before .before .before .before .before .before .before .before .before .if2 .left) (c .before .before .before .before .before .before .before .before .before .before .before .before .before .before .if3 .left) (c .before .before .before .before .before .before .before .before .before .before .before .before .before .if4 .left) _ _ _ _ _ (c .before .before .before .before .before .before .before .before .before .before .before .before .lowest64 .ensures) (c .before .before .before .before .before .before .before .before .before .before .before .after .ensures) (c .before .before .before .before .before .before .before .before .before .before .used .ensures) (c .before .before .before .before .before .visit .ensures .0) (c .before .before .before .before .before .visit .ensures .1) _ _ _ _ (c .before .rest .given .1) (c .before .before .before .before .before .before .before .before .before .kind-at .ensures) (c .before .before .before .before .before .before .before .before .tablet-at .ensures)
-
 choose-same-length-2 : (t : ℕ) → choose-lts.Need-same-length-2 (choose-claims t) (choose-at t) choose.Post
-choose-same-length-2 t c = c .before .before .choose .kept .1 .1 .1 .1 .1 .0 ∙ same-after (c .before .before .before .before .before .before .before .before .before .before .before .before .before .before .before .before .before .before .before .before .before .before .before .before .args .room .now) (c .before .before .before .before .before .before .before .before .before .before .visit .last .1 .1 .1 .1 .0) (c .before .before .before .before .before .before .before .before .before .before .visit .kept .1 .1 .1 .1 .0)
+choose-same-length-2 t c = simp length-set (same-after (c .before .before .before .before .before .before .before .before .before .before .before .before .before .before .before .before .before .before .before .args .room .now) (c .before .before .before .before .before .before .before .visit .last .1 .1 .1 .1 .0) (c .before .before .before .before .before .before .before .visit .kept .1 .1 .1 .1 .0))
 
 choose-returns-6 : (t : ℕ) → choose-lts.Need-returns-6 (choose-claims t) (choose-at t) choose.Post
-choose-returns-6 t c = others-tried _ _ _ _ _ (c .before .before .before .before .before .before .before .before .before .before .before .before .before .before .before .before .before .before .before .before .before .before .before .before .args .room .now) (c .before .before .before .before .before .before .before .before .before .before .before .before .before .before .before .before .before .before .before .before .before .if1 .left) (c .before .before .before .before .before .before .before .before .before .before .before .before .before .before .before .before .before .before .before .before .before .before .before .before .fits .choices .fits) (c .before .before .before .before .before .before .before .before .before .before .before .before .before .before .before .before .before .before .before .before .if2 .left) (c .before .before .before .before .before .before .before .before .before .before .before .before .before .before .before .before .before .before .before .if3 .left) (c .before .before .before .before .before .before .before .before .before .before .before .before .before .before .before .before .before .before .if4 .left) _ _ _ _ _ (c .before .before .before .before .before .before .before .before .before .before .before .before .before .before .before .before .before .lowest64 .ensures) (c .before .before .before .before .before .before .before .before .before .before .before .before .before .before .before .before .after .ensures) (c .before .before .before .before .before .before .before .before .before .before .before .before .before .before .before .used .ensures) (c .before .before .before .before .before .before .before .before .before .before .visit .ensures .0) (c .before .before .before .before .before .before .before .before .before .before .visit .ensures .1) _ _ _ _ (c .before .before .before .before .before .before .rest2 .given .1) (c .before .before .before .before .remove64 .ensures) (c .before .before .choose .ensures)
+choose-returns-6 t c = end-found _ _ _ _ _ (c .before .before .before .before .before .before .before .before .before .before .before .before .before .before .before .before .before .before .before .args .room .now) (c .before .before .before .before .before .before .before .before .before .before .before .before .before .before .before .before .if1 .left) (c .before .before .before .before .before .before .before .before .before .before .before .before .before .before .before .before .before .before .before .fits .choices .fits) (c .before .before .before .before .before .before .before .before .before .before .before .before .before .before .before .if2 .left) (c .before .before .before .before .before .before .before .before .before .before .before .before .before .before .if3 .left) (c .before .before .before .before .before .before .before .before .before .before .before .before .before .if4 .left) _ _ _ _ _ (c .before .before .before .before .before .before .before .before .before .before .before .before .lowest64 .ensures) (c .before .before .before .before .before .before .before .before .before .before .before .after .ensures) (c .before .before .before .before .before .before .before .before .before .before .used .ensures) (c .before .before .before .before .before .before .before .visit .ensures .0) (c .before .before .before .before .before .before .before .visit .ensures .1) _ _ _ _ (c .before .before .before .rest .given .1) (c .before .kind-at .ensures) (c .tablet-at .ensures)
 
 choose-same-length-3 : (t : ℕ) → choose-lts.Need-same-length-3 (choose-claims t) (choose-at t) choose.Post
-choose-same-length-3 t c = same-after (c .before .before .before .before .before .before .before .before .before .before .before .before .before .before .before .before .before .before .args .room .now) (c .before .before .before .before .visit .last .1 .1 .1 .1 .0) (c .before .before .before .before .visit .kept .1 .1 .1 .1 .0)
+choose-same-length-3 t c = c .before .before .choose .kept .1 .1 .1 .1 .1 .0 ∙ same-after (c .before .before .before .before .before .before .before .before .before .before .before .before .before .before .before .before .before .before .before .before .before .before .before .args .room .now) (c .before .before .before .before .before .before .before .before .before .before .before .visit .last .1 .1 .1 .1 .0) (c .before .before .before .before .before .before .before .before .before .before .before .visit .kept .1 .1 .1 .1 .0)
 
 choose-returns-7 : (t : ℕ) → choose-lts.Need-returns-7 (choose-claims t) (choose-at t) choose.Post
-choose-returns-7 t c = spent-on _ _ _ _ _ (c .before .before .before .before .before .before .before .before .before .before .before .before .before .before .before .before .before .before .args .room .now) (c .before .before .before .before .before .before .before .before .before .before .before .before .before .before .before .if1 .left) (c .before .before .before .before .before .before .before .before .before .before .before .before .before .before .before .before .before .before .fits .choices .fits) (c .before .before .before .before .before .before .before .before .before .before .before .before .before .before .if2 .left) (c .before .before .before .before .before .before .before .before .before .before .before .before .before .if3 .left) (c .before .before .before .before .before .before .before .before .before .before .before .before .if4 .left) _ _ _ _ _ (c .before .before .before .before .before .before .before .before .before .before .before .lowest64 .ensures) (c .before .before .before .before .before .before .before .before .before .before .after .ensures) (c .before .before .before .before .before .before .before .before .before .used .ensures) (c .before .before .before .before .visit .ensures .0) (c .before .before .before .before .visit .ensures .1) (c .enum-told .given .1)
+choose-returns-7 t c = others-tried _ _ _ _ _ (c .before .before .before .before .before .before .before .before .before .before .before .before .before .before .before .before .before .before .before .before .before .before .before .args .room .now) (c .before .before .before .before .before .before .before .before .before .before .before .before .before .before .before .before .before .before .before .before .if1 .left) (c .before .before .before .before .before .before .before .before .before .before .before .before .before .before .before .before .before .before .before .before .before .before .before .fits .choices .fits) (c .before .before .before .before .before .before .before .before .before .before .before .before .before .before .before .before .before .before .before .if2 .left) (c .before .before .before .before .before .before .before .before .before .before .before .before .before .before .before .before .before .before .if3 .left) (c .before .before .before .before .before .before .before .before .before .before .before .before .before .before .before .before .before .if4 .left) _ _ _ _ _ (c .before .before .before .before .before .before .before .before .before .before .before .before .before .before .before .before .lowest64 .ensures) (c .before .before .before .before .before .before .before .before .before .before .before .before .before .before .before .after .ensures) (c .before .before .before .before .before .before .before .before .before .before .before .before .before .before .used .ensures) (c .before .before .before .before .before .before .before .before .before .before .before .visit .ensures .0) (c .before .before .before .before .before .before .before .before .before .before .before .visit .ensures .1) _ _ _ _ (c .before .before .before .before .before .before .before .rest2 .given .1) (c .before .before .before .before .before .remove64 .ensures) (c .before .before .choose .ensures)
 
 choose-same-length-4 : (t : ℕ) → choose-lts.Need-same-length-4 (choose-claims t) (choose-at t) choose.Post
-choose-same-length-4 t c = same-after (c .before .before .before .before .before .before .before .before .before .before .before .before .before .before .before .before .before .before .args .room .now) (c .before .before .before .before .visit .last .1 .1 .1 .1 .0) (c .before .before .before .before .visit .kept .1 .1 .1 .1 .0)
+choose-same-length-4 t c = same-after (c .before .before .before .before .before .before .before .before .before .before .before .before .before .before .before .before .args .room .now) (c .before .before .before .before .visit .last .1 .1 .1 .1 .0) (c .before .before .before .before .visit .kept .1 .1 .1 .1 .0)
 
 choose-returns-8 : (t : ℕ) → choose-lts.Need-returns-8 (choose-claims t) (choose-at t) choose.Post
-choose-returns-8 t c = deep-on _ _ _ _ _ (c .before .before .before .before .before .before .before .before .before .before .before .before .before .before .before .before .before .before .args .room .now) (c .before .before .before .before .before .before .before .before .before .before .before .before .before .before .before .if1 .left) (c .before .before .before .before .before .before .before .before .before .before .before .before .before .before .before .before .before .before .fits .choices .fits) (c .before .before .before .before .before .before .before .before .before .before .before .before .before .before .if2 .left) (c .before .before .before .before .before .before .before .before .before .before .before .before .before .if3 .left) (c .before .before .before .before .before .before .before .before .before .before .before .before .if4 .left) _ _ _ _ _ (c .before .before .before .before .before .before .before .before .before .before .before .lowest64 .ensures) (c .before .before .before .before .before .before .before .before .before .before .after .ensures) (c .before .before .before .before .before .before .before .before .before .used .ensures) (c .before .before .before .before .visit .ensures .0) (c .before .before .before .before .visit .ensures .1) (c .enum-told2 .given .1)
+choose-returns-8 t c = spent-on _ _ _ _ _ (c .before .before .before .before .before .before .before .before .before .before .before .before .before .before .before .before .args .room .now) (c .before .before .before .before .before .before .before .before .before .before .before .before .before .if1 .left) (c .before .before .before .before .before .before .before .before .before .before .before .before .before .before .before .before .fits .choices .fits) (c .before .before .before .before .before .before .before .before .before .before .before .before .if2 .left) (c .before .before .before .before .before .before .before .before .before .before .before .if3 .left) (c .before .before .before .before .before .before .before .before .before .before .if4 .left) _ _ _ _ _ (c .before .before .before .before .before .before .before .before .before .lowest64 .ensures) (c .before .before .before .before .before .before .before .before .after .ensures) (c .before .before .before .before .before .before .before .used .ensures) (c .before .before .before .before .visit .ensures .0) (c .before .before .before .before .visit .ensures .1) (c .enum-told .given .1)
+
+choose-same-length-5 : (t : ℕ) → choose-lts.Need-same-length-5 (choose-claims t) (choose-at t) choose.Post
+choose-same-length-5 t c = same-after (c .before .before .before .before .before .before .before .before .before .before .before .before .before .before .before .before .args .room .now) (c .before .before .before .before .visit .last .1 .1 .1 .1 .0) (c .before .before .before .before .visit .kept .1 .1 .1 .1 .0)
+
+choose-returns-9 : (t : ℕ) → choose-lts.Need-returns-9 (choose-claims t) (choose-at t) choose.Post
+choose-returns-9 t c = deep-on _ _ _ _ _ (c .before .before .before .before .before .before .before .before .before .before .before .before .before .before .before .before .args .room .now) (c .before .before .before .before .before .before .before .before .before .before .before .before .before .if1 .left) (c .before .before .before .before .before .before .before .before .before .before .before .before .before .before .before .before .fits .choices .fits) (c .before .before .before .before .before .before .before .before .before .before .before .before .if2 .left) (c .before .before .before .before .before .before .before .before .before .before .before .if3 .left) (c .before .before .before .before .before .before .before .before .before .before .if4 .left) _ _ _ _ _ (c .before .before .before .before .before .before .before .before .before .lowest64 .ensures) (c .before .before .before .before .before .before .before .before .after .ensures) (c .before .before .before .before .before .before .before .used .ensures) (c .before .before .before .before .visit .ensures .0) (c .before .before .before .before .visit .ensures .1) (c .enum-told2 .given .1)
 
 visit-returns : (t : ℕ) → visit-lts.Need-returns (visit-claims t) (visit-at t) visit.Post
 visit-returns t c = (end-left _ _ _ _ _ (c .if1 .taken), end-room _ _ _ _ _ _ (c .if1 .taken))
@@ -200,8 +214,6 @@ pub +choose+visit-spec : {M : Type 1} → statement M
     (choose-lowest64-requires t)
     (choose-after-requires t)
     (choose-used-requires t)
-    (choose-kind-at-requires t)
-    (choose-tablet-at-requires t)
     (choose-sub-visit t)
     (choose-part-visit-start t)
     (choose-part-visit-end t)
@@ -211,24 +223,28 @@ pub +choose+visit-spec : {M : Type 1} → statement M
     (choose-part-visit-end-2 t)
     (choose-visit-requires t)
     (choose-enum-known-rest t)
+    (choose-kind-at-requires t)
     (choose-slice-write-room t)
+    (choose-tablet-at-requires t)
     (choose-slice-write-room-2 t)
     (choose-add-t29 t)
     (choose-enum-known-rest-2 t)
     (choose-remove64-requires t)
+    (choose-same-length t)
+    (choose-returns-5 t)
     (choose-choose-requires t)
     (choose-enum-told t)
     (choose-enum-told-2 t)
-    (choose-same-length t)
-    (choose-returns-5 t)
     (choose-same-length-2 t)
     (choose-returns-6 t)
     (choose-same-length-3 t)
     (choose-returns-7 t)
     (choose-same-length-4 t)
-    (choose-returns-8 t))
+    (choose-returns-8 t)
+    (choose-same-length-5 t)
+    (choose-returns-9 t))
     λ t. visit-lts.spec
-    (visit-claims t)
+    (possible-reads.Asked, possible-reads.Learnt, choose-below t, choose.Post)
     (visit-at t)
     visit.Post
     (visit-returns t)
