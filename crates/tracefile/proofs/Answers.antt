@@ -2,7 +2,7 @@
 -- answer have the same number and place, and a part is its bytes.
 -- Assumes nothing.
 use mathlib.Core.Bool.{cond}
-use mathlib.Core.Path.{_≡_, refl, sym, ap, _∙_}
+use mathlib.Core.Path.{_≡_, refl, sym, ap, ap₂, _∙_}
 use contract.Lifetimes.{Lfts}
 use denote.Ref.{now}
 use denote.Triple.Clauses.{AtExit}
@@ -14,7 +14,11 @@ use Rattle.tracefile.proofs.check_asked.Kinds as check-asked-kinds
 use Rattle.tracefile.proofs.check_asked.Reads as check-asked-reads
 use Rattle.tracefile.proofs.asked_body.Kinds as asked-body-kinds
 use Rattle.tracefile.proofs.asked_body.Reads as asked-body-reads
+use Rattle.tracefile.proofs.number_and_place.Kinds as number-and-place-kinds
+use Rattle.tracefile.proofs.number_and_place.Reads as number-and-place-reads
+use Prim.Native.Nat.{ℕ}
 use Rattle.tracefile.specs.Refusals.{Answer, accepted, refused, told}
+use Rattle.tracefile.specs.declared.Numbered.{Numbered}
 use Rattle.tracefile.specs.declared.Refusal.the-variants.{Length, Edition, Tablets, Values, Bodies, Contents, BadRecord, Trace}
 use Rattle.tracefile.specs.declared.Checked.{Checked}
 use Rattle.tracefile.specs.declared.Checked.the-variants.{Good, Refused}
@@ -57,3 +61,20 @@ check-asked κs a x y e f p q = told-once x y (p ∙ sym q)
 asked-body : (κs : Lfts 1) (a : Dens κs asked-body-kinds.ps) (x y : resT asked-body-kinds.r κs .Denot) (e f : AtExit (endedOf 1 asked-body-kinds.ps asked-body-kinds.r) κs)
     → asked-body-reads.Learnt κs a x e → asked-body-reads.Learnt κs a y f → now x ≡ now y
 asked-body κs a x y e f p q = p ∙ sym q
+
+number-in : Answer → ℕ
+number-in accepted = 0
+number-in (refused number place) = number
+
+place-in : Answer → ℕ
+place-in accepted = 0
+place-in (refused number place) = place
+
+with-numbers : ℕ → ℕ → Numbered
+with-numbers number place = record { number = number; place = place }
+
+number-and-place : Single 0 number-and-place-kinds.ps number-and-place-kinds.r number-and-place-reads.Learnt
+unfolding number-in place-in with-numbers
+number-and-place κs a x y e f p q =
+    let h : refused (x .number) (x .place) ≡ refused (y .number) (y .place) = p ∙ sym q in
+    ap₂ with-numbers (ap number-in h) (ap place-in h)

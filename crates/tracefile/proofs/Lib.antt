@@ -1,4 +1,5 @@
 pub mod Answers
 pub mod Good
+pub mod Listed
 pub mod Loops
 pub mod Worked

@@ -7,7 +7,8 @@ use contents::check_head;
 use contents::check_records;
 use contents::number2;
 ghost use mathlib.Core.Path.{_≡_};
-ghost use Rattle.tracefile.specs.Refusals.{told};
+ghost use Rattle.tracefile.specs.Refusals.{told, refused};
+ghost use Rattle.tracefile.specs.Refusals.{refusal as refusal-of};
 ghost use Rattle.tracefile.specs.File.{check, check-trace, asked};
 
 // Why a file, or a trace number, is refused. A case that has no fixed place carries it.
@@ -25,6 +26,46 @@ pub enum Refusal {
 pub enum Checked {
     Good,
     Refused(Refusal),
+}
+
+// A refusal by its number in the table, and its place.
+pub struct Numbered {
+    pub number: u32,
+    pub place: u32,
+}
+
+// The number and the place of a refusal.
+pub fn number_and_place(refusal: Refusal) -> Numbered
+    ensures { λ r. ⌜ refused (r .number) (r .place) ≡ refusal-of refusal ⌝ }
+{
+    match refusal {
+        Refusal::Length => Numbered {
+            number: 1,
+            place: 0,
+        },
+        Refusal::Edition => Numbered {
+            number: 2,
+            place: 0,
+        },
+        Refusal::Tablets => Numbered {
+            number: 3,
+            place: 1,
+        },
+        Refusal::Values => Numbered {
+            number: 4,
+            place: 2,
+        },
+        Refusal::Bodies => Numbered {
+            number: 5,
+            place: 3,
+        },
+        Refusal::Contents(place) => Numbered { number: 6, place },
+        Refusal::BadRecord(place) => Numbered { number: 7, place },
+        Refusal::Trace => Numbered {
+            number: 8,
+            place: 0,
+        },
+    }
 }
 
 // Whether the whole file is good: refusals 1 to 7.

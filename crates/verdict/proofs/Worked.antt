@@ -17,10 +17,8 @@ use Rattle.records.specs.Records.{observations}
 use Rattle.tracefile.specs.File.{tablets-in, check-trace, asked}
 use Rattle.tracefile.specs.Example.{file-of-d}
 use Rattle.walk.specs.Steps.{laid-in, outcome-in}
-use Rattle.verdict.specs.Judged.{explained-by, unexplained-in, undecided-at, refused, told, evening, judged, room-judged, Allowed}
+use Rattle.verdict.specs.Judged.{Said, explained-by, unexplained-in, undecided-at, refused, evening, judged, room-judged, Allowed}
 use Rattle.verdict.specs.Example.{file-of-e}
-use Rattle.verdict.specs.declared.Verdict.{Verdict}
-use Rattle.verdict.specs.declared.Verdict.the-variants.{Explained, Unexplained, Undecided}
 use Rattle.verdict.proofs.Demands.{IsUndecided, Ready, room-as-it-came, explained-only-with, unexplained-only-if, more-if-undecided, repeated, none-later}
 
 -- D: explained by four points and three events, which are laid in the room and leave its last byte
@@ -55,14 +53,14 @@ e-unexplained = refl
 abbrev room-of-d : List ℕ
 room-of-d = 9 ∷ 9 ∷ 9 ∷ 9 ∷ 9 ∷ 9 ∷ 9 ∷ []
 
-d-four : Allowed file-of-d 1 4 room-of-d (Explained 4 3) (2 ∷ 1 ∷ 5 ∷ 1 ∷ 3 ∷ 0 ∷ 9 ∷ [])
+d-four : Allowed file-of-d 1 4 room-of-d (explained-by 4 3) (2 ∷ 1 ∷ 5 ∷ 1 ∷ 3 ∷ 0 ∷ 9 ∷ [])
 d-four = record { says = sym d-explained; leaves = sym d-laid }
 
-d-three : Allowed file-of-d 1 3 room-of-d (Undecided 3) room-of-d
+d-three : Allowed file-of-d 1 3 room-of-d (undecided-at 3) room-of-d
 unfolding judged room-judged check-trace asked observations number outcome outcome-in has add remove only full
 d-three = record { says = refl; leaves = refl }
 
-e-one : Allowed file-of-e 1 1 room-of-d (Unexplained 1) room-of-d
+e-one : Allowed file-of-e 1 1 room-of-d (unexplained-in 1) room-of-d
 unfolding judged room-judged check-trace asked observations number outcome outcome-in has add remove only full
 e-one = record { says = refl; leaves = refl }
 
@@ -81,24 +79,24 @@ d-unstopped = subst Unstopped (sym d-needs) tt
 -- ---- the demands there
 
 -- 1: an undecided answer leaves the room
-pub d-room-kept : (after : List ℕ) → Allowed file-of-d 1 3 room-of-d (Undecided 3) after → after ≡ room-of-d
-d-room-kept after p = room-as-it-came file-of-d 1 3 room-of-d (Undecided 3) after p (λ k m h. subst IsUndecided h tt)
+pub d-room-kept : (after : List ℕ) → Allowed file-of-d 1 3 room-of-d (undecided-at 3) after → after ≡ room-of-d
+d-room-kept after p = room-as-it-came file-of-d 1 3 room-of-d (undecided-at 3) after p (λ k m h. subst IsUndecided h tt)
 
 -- 2: an explanation of D, and none of E
 pub d-has-one : (es : List Event) × (Explanation 1 (evening file-of-d 1) es × ((length es ≡ 3) × (2 ∷ 1 ∷ 5 ∷ 1 ∷ 3 ∷ 0 ∷ 9 ∷ [] ≡ laid-in es room-of-d)))
-d-has-one = explained-only-with file-of-d 1 4 room-of-d 4 3 (Explained 4 3) _ d-four refl
+d-has-one = explained-only-with file-of-d 1 4 room-of-d 4 3 (explained-by 4 3) _ d-four refl
 
 pub e-has-none : (es : List Event) → Explanation 1 (evening file-of-e 1) es → ⊥
-e-has-none = unexplained-only-if file-of-e 1 1 room-of-d 1 (Unexplained 1) room-of-d e-one refl
+e-has-none = unexplained-only-if file-of-e 1 1 room-of-d 1 (unexplained-in 1) room-of-d e-one refl
 
 -- 3: three points are fewer than D needs; a larger budget says what four points said; E stays unexplained
 pub d-needs-more : 3 < needed (walk 1 (evening file-of-d 1))
-d-needs-more = more-if-undecided file-of-d 1 3 3 room-of-d (Undecided 3) room-of-d d-ready d-unstopped d-three refl
+d-needs-more = more-if-undecided file-of-d 1 3 3 room-of-d (undecided-at 3) room-of-d d-ready d-unstopped d-three refl
 
-pub d-repeats : (x : Verdict) (after : List ℕ) → Allowed file-of-d 1 1000000 room-of-d x after
-    → (told x ≡ explained-by 4 3) × (after ≡ 2 ∷ 1 ∷ 5 ∷ 1 ∷ 3 ∷ 0 ∷ 9 ∷ [])
+pub d-repeats : (s : Said) (after : List ℕ) → Allowed file-of-d 1 1000000 room-of-d s after
+    → (s ≡ explained-by 4 3) × (after ≡ 2 ∷ 1 ∷ 5 ∷ 1 ∷ 3 ∷ 0 ∷ 9 ∷ [])
 unfolding outcome asked observations number has add remove only full
-d-repeats x after p = repeated file-of-d 1 4 1000000 room-of-d (Explained 4 3) x _ after d-ready (omega arith) tt d-four p
+d-repeats s after p = repeated file-of-d 1 4 1000000 room-of-d (explained-by 4 3) s _ after d-ready (omega arith) tt d-four p
 
 pub e-none-later : (more : List Observation) (es : List Event) → Explanation 1 (evening file-of-e 1 ++ more) es → ⊥
-e-none-later = none-later file-of-e 1 1 room-of-d 1 (Unexplained 1) room-of-d e-one refl
+e-none-later = none-later file-of-e 1 1 room-of-d 1 (unexplained-in 1) room-of-d e-one refl

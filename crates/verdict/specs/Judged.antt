@@ -76,7 +76,8 @@ unfoldable pub room-judged : List ℕ → ℕ → ℕ → List ℕ → List ℕ
 unfolding room-unless room-walked
 room-judged f t budget room = room-unless (check-trace f t) room (room-walked f t budget room)
 
--- What the contract of the call allows: for a file, a trace number, a budget and a room, this answer and this room afterwards.
-pub record Allowed (file : List ℕ) (trace budget : ℕ) (room : List ℕ) (answer : Verdict) (after : List ℕ) : Type 0 where
-  pub says : told answer ≡ judged file trace budget (length room)
+-- What the contract of the call allows: for a file, a trace number, a budget and a room, this to be said and this room
+-- afterwards.
+pub record Allowed (file : List ℕ) (trace budget : ℕ) (room : List ℕ) (answer : Said) (after : List ℕ) : Type 0 where
+  pub says : answer ≡ judged file trace budget (length room)
   pub leaves : after ≡ room-judged file trace budget room
