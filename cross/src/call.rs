@@ -1,12 +1,15 @@
 //! The whole call: from what is lent to it to the status and the final bytes.
 
-use crate::file;
-use crate::model::Event;
+use crate::file::{self, MOST_RECORDS};
+use crate::model::{Event, MOST_TABLETS};
 use crate::refusal::Refusal;
 use crate::walk::{Walked, longest, walk};
 use crate::wrong::Wrong;
 
 pub const AREA: usize = 12;
+
+/// The room that is always enough, for 256 writes on 8 tablets.
+pub const MOST_ROOM: usize = 2 * (MOST_RECORDS + MOST_TABLETS * MOST_RECORDS);
 
 /// What a caller lends and asks. The bytes of room and area are those they
 /// hold before the call.

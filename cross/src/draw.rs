@@ -1,6 +1,6 @@
 //! Draws whole calls: a file, good or damaged, and what is asked of it.
 
-use crate::call::{AREA, Call};
+use crate::call::{AREA, Call, MOST_ROOM};
 use crate::damage::damaged;
 use crate::dice::Dice;
 use crate::evenings::Drawer;
@@ -9,9 +9,6 @@ use crate::model::Event;
 use crate::sheet::{self, Sheet};
 use crate::walk::{Walked, longest, walk};
 use crate::wrong::Wrong;
-
-/// The room that is always enough, for 256 writes on 8 tablets.
-const MOST_ROOM: usize = 4_608;
 
 /// How a budget lies to the count of the asked trace.
 #[derive(Clone, Copy, PartialEq, Eq)]
@@ -108,7 +105,7 @@ fn trace_number(dice: &mut Dice, bodies: u32) -> u32 {
 /// A budget, mostly near the count. The count is searched for only so far, and
 /// a trace that is undecided by then never gets a large budget.
 fn budget(dice: &mut Dice, tablets: u8, trace: &[Event]) -> (u32, Edge) {
-    let cap = if dice.chance(1, 16) { 20_000 } else { 3_000 };
+    let cap = if dice.chance(1, 32) { 100_000 } else { 10_000 };
     let count = match walk(tablets, trace, cap, Wrong::Nothing) {
         Walked::Explained { points, .. } | Walked::Unexplained { points } => points,
         _ => return (capped(dice, cap), Edge::Elsewhere),

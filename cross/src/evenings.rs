@@ -1,10 +1,9 @@
 //! Draws traces: honest ones, disturbed ones, random ones and deep ones.
 
 use crate::dice::Dice;
+use crate::file::MOST_RECORDS;
 use crate::model::{Event, State};
 use crate::wrong::Wrong;
-
-const MOST_RECORDS: usize = 256;
 
 /// Draws traces for one number of tablets and one number of values.
 pub struct Drawer<'a> {

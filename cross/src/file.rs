@@ -7,7 +7,7 @@ use std::ops::Range;
 pub const RECORD: usize = 12;
 const ENTRY: usize = 4;
 const MOST_BYTES: usize = 65_535;
-const MOST_RECORDS: usize = 256;
+pub const MOST_RECORDS: usize = 256;
 
 /// What the contents say: the numbers of the header and where each body lies.
 pub struct Contents {
@@ -126,9 +126,7 @@ pub fn record(bytes: &[u8], tablets: u8, values: u8) -> Option<Event> {
     let nowhere = tablet == 0 && new == 0;
     match kind {
         1 if at_tablet && new == 0 && seen < values => Some(Event::Read { tablet, seen }),
-        2 if at_tablet && new < values && seen < values => {
-            Some(Event::Write { tablet, new, seen })
-        }
+        2 if at_tablet && new < values && seen < values => Some(Event::Write { tablet, new, seen }),
         3 if nowhere && seen < values && set & !disputable(values) == 0 => Some(Event::Stabilize {
             seen,
             conflicts: set,

@@ -19,7 +19,7 @@ pub fn difference(call: &Call, wrong: Wrong) -> String {
     )
 }
 
-/// Shrinks the call while the two statuses stay as they are.
+/// The smallest call found in which the library and the other still differ.
 pub fn shrunken(call: &Call, wrong: Wrong) -> Call {
     shrink(call.clone(), |call| {
         let library = library::outcome(call);
@@ -44,30 +44,19 @@ fn in_full(call: &Call, wrong: Wrong) -> String {
         format!("  library: {}", outcome(&library)),
         format!("  other:   {}", outcome(&other)),
     ];
-    for (name, one, two) in [
-        ("file", &library.file, &other.file),
-        ("room", &library.room, &other.room),
-        ("area", &library.area, &other.area),
+    for (name, before, one, two) in [
+        ("file", &call.file, &library.file, &other.file),
+        ("room", &call.room, &library.room, &other.room),
+        ("area", &call.area, &library.area, &other.area),
     ] {
-        if let Some(place) = (0..one.len()).find(|&place| one[place] != two[place]) {
+        if let Some(at) = (0..before.len()).find(|&at| one[at] != two[at]) {
             lines.push(format!(
-                "  the {name} differs first at byte {place}: library {:02x}, other {:02x}, before {}",
-                one[place],
-                two[place],
-                before(call, name, place),
+                "  {name} from byte {at}: library {:02x}, other {:02x}, before the call {:02x}",
+                one[at], two[at], before[at],
             ));
         }
     }
     lines.join("\n")
-}
-
-fn before(call: &Call, name: &str, place: usize) -> String {
-    let memory = match name {
-        "file" => &call.file,
-        "room" => &call.room,
-        _ => &call.area,
-    };
-    format!("{:02x}", memory[place])
 }
 
 /// The status in words with the three numbers of the area.

@@ -7,21 +7,31 @@ use std::collections::BTreeSet;
 use std::ops::Range;
 
 /// Smaller calls are not tried where a walk of this many points is not enough.
-const PATIENCE: u32 = 100_000;
+const PATIENCE: u32 = 20_000;
 
 /// Smaller calls or smaller parts of a call, made one by one as they are tried.
 type Smaller<'a, T> = Box<dyn Iterator<Item = T> + 'a>;
 
-/// The smallest call found that keeps the difference. `difference` tells what
-/// the difference in a call is, if there is one.
-pub fn shrink<D: PartialEq>(mut call: Call, difference: impl Fn(&Call) -> Option<D>) -> Call {
-    let wanted = difference(&call);
-    let keeps = |smaller: &Call| bearable(smaller) && difference(smaller) == wanted;
-    let ways = [lower_budget, change_sheet, change_bytes, change_memory];
-    while let Some(smaller) = ways.iter().find_map(|way| way(&call).find(keeps)) {
-        call = smaller;
+/// The smallest call found in which the two sides still differ. `difference`
+/// gives the two statuses of a call where they do.
+///
+/// A smaller file may show another difference than the one before it. Budget
+/// and memory are lowered only after that and keep the statuses, for a low
+/// budget would turn most differences into one of undecided calls.
+pub fn shrink(mut call: Call, difference: impl Fn(&Call) -> Option<(u32, u32)>) -> Call {
+    loop {
+        let statuses = difference(&call);
+        let differs = |smaller: &Call| bearable(smaller) && difference(smaller).is_some();
+        let keeps = |smaller: &Call| difference(smaller) == statuses;
+        let smaller = (capped(&call).chain(change_sheet(&call)))
+            .chain(change_bytes(&call))
+            .find(differs)
+            .or_else(|| lower_budget(&call).chain(change_memory(&call)).find(keeps));
+        match smaller {
+            Some(smaller) => call = smaller,
+            None => return call,
+        }
     }
-    call
 }
 
 /// Whether both sides will come to an answer soon.
@@ -39,9 +49,17 @@ fn bearable(call: &Call) -> bool {
     )
 }
 
+/// The call with a budget that is soon spent, if it has not one already.
+fn capped(call: &Call) -> Smaller<'_, Call> {
+    with_budgets(call, vec![PATIENCE])
+}
+
 fn lower_budget(call: &Call) -> Smaller<'_, Call> {
-    let budgets = [PATIENCE, call.budget / 2, call.budget.saturating_sub(1)];
-    let lower = budgets.into_iter().filter(|&lower| lower < call.budget);
+    with_budgets(call, vec![call.budget / 2, call.budget.saturating_sub(1)])
+}
+
+fn with_budgets(call: &Call, budgets: Vec<u32>) -> Smaller<'_, Call> {
+    let lower = budgets.into_iter().filter(|&budget| budget < call.budget);
     Box::new(lower.map(|budget| Call {
         budget,
         ..call.clone()
@@ -155,7 +173,7 @@ fn change_bytes(call: &Call) -> Smaller<'_, Call> {
     if Sheet::decode(&call.file).is_some() {
         return Box::new(std::iter::empty());
     }
-    let lowered = (0..call.file.len()).flat_map(|place| {
+    let lowered = (0..call.file.len()).flat_map(move |place| {
         lower(call.file[place]).map(move |byte| {
             let mut file = call.file.clone();
             file[place] = byte;

@@ -3,6 +3,7 @@
 use crate::call::{AREA, Answer, Call};
 use crate::draw::{Drawn, Edge};
 use crate::file::{self, Traces};
+use crate::model::Event;
 use crate::refusal::Refusal;
 use crate::walk::longest;
 use std::collections::BTreeMap;
@@ -38,6 +39,10 @@ const ROWS: &[(&str, u64)] = &[
     ("explained, three writes or more", 15_000),
     ("unexplained, three writes or more", 5_000),
     ("undecided, three writes or more", 5_000),
+    ("explained, 100 points or more", 1_000),
+    ("unexplained, 100 points or more", 1_000),
+    ("explained, with steps taken back", 2_000),
+    ("explained, with a conflict", 1_000),
     ("area not of 12 bytes", 2_000),
     ("room too short", 5_000),
     ("room one byte too short", 2_000),
@@ -84,21 +89,166 @@ impl Tally {
     }
 
     pub fn note(&mut self, drawn: &Drawn, answer: &Answer) {
-        let call = &drawn.call;
-        self.note_memory(call);
-        self.note_answer(answer);
-        if let Answer::Refused(refusal) = answer {
-            self.note_refusal(*refusal);
+        for row in rows(drawn, answer) {
+            let count = self.counts.get_mut(row.as_str());
+            *count.expect("every kind of call has its row") += 1;
         }
-        if let Ok(traces) = file::read(&call.file) {
-            self.note_traces(call, &traces);
-            if call.area.len() == AREA {
-                self.note_room(call, &traces);
-                self.note_writes(call, &traces, answer);
-            }
+    }
+
+    /// The table for so many calls: what was counted and what had to be.
+    pub fn table(&self, calls: u64) -> String {
+        let mut lines = vec![format!("{:42}{:>9}{:>9}", "calls", calls, "minimum")];
+        for &(row, stated) in ROWS {
+            let minimum = match scaled(stated, calls) {
+                0 => "-".to_string(),
+                minimum => minimum.to_string(),
+            };
+            lines.push(format!("{row:42}{:>9}{minimum:>9}", self.counts[row]));
         }
-        if !matches!(answer, Answer::Refused(_)) {
-            self.note_edge(drawn.edge);
+        lines.join("\n")
+    }
+
+    /// The rows that fall short of their minimum for so many calls.
+    pub fn short(&self, calls: u64) -> Vec<&'static str> {
+        let rows = ROWS.iter();
+        rows.filter(|&&(row, stated)| self.counts[row] < scaled(stated, calls))
+            .map(|&(row, _)| row)
+            .collect()
+    }
+}
+
+fn scaled(stated: u64, calls: u64) -> u64 {
+    (u128::from(stated) * u128::from(calls) / u128::from(STATED_FOR)) as u64
+}
+
+/// The rows that a call belongs to.
+fn rows(drawn: &Drawn, answer: &Answer) -> Vec<String> {
+    let call = &drawn.call;
+    let mut rows = answer_rows(answer);
+    rows.extend(memory_rows(call).into_iter().map(String::from));
+    if let Ok(traces) = file::read(&call.file) {
+        rows.extend(file_rows(&traces));
+        rows.extend(number_rows(call.trace, traces.traces.len() as u32));
+        if let Ok(trace) = traces.trace(call.trace) {
+            rows.extend(trace_rows(call, traces.tablets, trace, answer));
         }
+    }
+    if !matches!(answer, Answer::Refused(_)) {
+        rows.extend(edge_row(drawn.edge).map(String::from));
+    }
+    rows
+}
+
+fn answer_rows(answer: &Answer) -> Vec<String> {
+    let mut rows = vec![word(answer)];
+    match answer {
+        Answer::Refused(refusal) => {
+            let detail = refusal_detail(*refusal);
+            rows.extend(detail.map(|detail| format!("{}, {detail}", word(answer))));
+        }
+        Answer::Explained { events, .. } => {
+            let lengths = [(500, "500"), (2_000, "2,000")];
+            let reached = lengths.iter().filter(|(least, _)| events.len() >= *least);
+            rows.extend(reached.map(|(_, least)| format!("explanation of {least} events or more")));
+        }
+        _ => {}
+    }
+    rows
+}
+
+fn word(answer: &Answer) -> String {
+    match answer {
+        Answer::Explained { .. } => "explained".to_string(),
+        Answer::Unexplained { .. } => "unexplained".to_string(),
+        Answer::Undecided { .. } => "undecided".to_string(),
+        Answer::Refused(refusal) => format!("refusal {}", refusal.number()),
+    }
+}
+
+/// Which row of refusal 6 or which kind of record of refusal 7 it was.
+fn refusal_detail(refusal: Refusal) -> Option<&'static str> {
+    match refusal {
+        Refusal::ContentsCut { .. } => Some("file ends inside the contents"),
+        Refusal::Offset { .. } => Some("offset not the expected one"),
+        Refusal::Count { .. } => Some("count over 256"),
+        Refusal::BodyCut { .. } => Some("body passes the end"),
+        Refusal::Surplus { .. } => Some("bytes after the last body"),
+        Refusal::Record { kind: 1, .. } => Some("READ"),
+        Refusal::Record { kind: 2, .. } => Some("WRITE"),
+        Refusal::Record { kind: 3, .. } => Some("STABILIZE"),
+        Refusal::Record { kind: 4, .. } => Some("STABILIZE failed"),
+        Refusal::Record { .. } => Some("no kind"),
+        _ => None,
+    }
+}
+
+fn memory_rows(call: &Call) -> Vec<&'static str> {
+    let kinds = [
+        (call.area.len() != AREA, "area not of 12 bytes"),
+        (call.null && call.file.is_empty(), "file is null"),
+        (call.null && call.room.is_empty(), "room is null"),
+        (call.null && call.area.is_empty(), "area is null"),
+    ];
+    kinds
+        .into_iter()
+        .filter(|(is, _)| *is)
+        .map(|(_, row)| row)
+        .collect()
+}
+
+fn file_rows(traces: &Traces) -> Vec<String> {
+    let mut rows = vec![format!("n = {}", traces.tablets)];
+    if traces.values == 1 || traces.values == 64 {
+        rows.push(format!("v = {}", traces.values));
+    }
+    if traces.traces.len() == 16 {
+        rows.push("k = 16".to_string());
+    }
+    rows
+}
+
+fn number_rows(number: u32, bodies: u32) -> Option<String> {
+    let name = match number {
+        0 => "0",
+        257 => "257",
+        u32::MAX => "2^32 - 1",
+        _ if number == bodies => "k",
+        _ if number == bodies + 1 => "k + 1",
+        _ => return None,
+    };
+    Some(format!("trace number {name}"))
+}
+
+/// What is told of a trace that is there: its length, its room, its writes.
+fn trace_rows(call: &Call, tablets: u8, trace: &[Event], answer: &Answer) -> Vec<String> {
+    let need = 2 * longest(tablets, trace);
+    let room = call.room.len();
+    let writes = trace.iter().filter(|event| event.is_write()).count();
+    let kinds = [
+        (trace.is_empty(), "trace of no records"),
+        (trace.len() == 256, "trace of 256 records"),
+        (room < need, "room too short"),
+        (room + 1 == need, "room one byte too short"),
+        (room == need && room > 0, "room exactly enough"),
+    ];
+    let mut rows: Vec<String> = kinds
+        .into_iter()
+        .filter(|(is, _)| *is)
+        .map(|(_, row)| row.to_string())
+        .collect();
+    if writes >= 3 && !matches!(answer, Answer::Refused(_)) {
+        rows.push(format!("{}, three writes or more", word(answer)));
+    }
+    rows
+}
+
+fn edge_row(edge: Edge) -> Option<&'static str> {
+    match edge {
+        Edge::Zero => Some("budget 0"),
+        Edge::OneBelow => Some("budget one below the count"),
+        Edge::Equal => Some("budget equal to the count"),
+        Edge::OneAbove => Some("budget one above the count"),
+        Edge::Largest => Some("budget 2^32 - 1"),
+        Edge::Elsewhere => None,
     }
 }
