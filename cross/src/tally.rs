@@ -2,7 +2,7 @@
 
 use crate::call::{AREA, Answer, Call};
 use crate::draw::{Drawn, Edge};
-use crate::file::{self, Traces};
+use crate::file::{self, MOST_RECORDS, Traces};
 use crate::model::Event;
 use crate::refusal::Refusal;
 use crate::walk::longest;
@@ -125,12 +125,14 @@ fn scaled(stated: u64, calls: u64) -> u64 {
 fn rows(drawn: &Drawn, answer: &Answer) -> Vec<String> {
     let call = &drawn.call;
     let mut rows = answer_rows(answer);
-    rows.extend(memory_rows(call).into_iter().map(String::from));
+    rows.extend(memory_rows(call).map(String::from));
     if let Ok(traces) = file::read(&call.file) {
         rows.extend(file_rows(&traces));
-        rows.extend(number_rows(call.trace, traces.traces.len() as u32));
+        rows.extend(number_row(call.trace, traces.traces.len() as u32));
         if let Ok(trace) = traces.trace(call.trace) {
-            rows.extend(trace_rows(call, traces.tablets, trace, answer));
+            let need = 2 * longest(traces.tablets, trace);
+            rows.extend(trace_rows(call, need, trace).map(String::from));
+            rows.extend(writes_row(trace, answer));
         }
     }
     if !matches!(answer, Answer::Refused(_)) {
@@ -140,20 +142,44 @@ fn rows(drawn: &Drawn, answer: &Answer) -> Vec<String> {
 }
 
 fn answer_rows(answer: &Answer) -> Vec<String> {
-    let mut rows = vec![word(answer)];
+    let word = word(answer);
+    let mut rows = vec![word.clone()];
     match answer {
+        Answer::Explained { points, events } => {
+            rows.extend(explanation_rows(*points, events).map(String::from));
+        }
+        Answer::Unexplained { points } if *points >= 100 => {
+            rows.push(format!("{word}, 100 points or more"));
+        }
         Answer::Refused(refusal) => {
             let detail = refusal_detail(*refusal);
-            rows.extend(detail.map(|detail| format!("{}, {detail}", word(answer))));
-        }
-        Answer::Explained { events, .. } => {
-            let lengths = [(500, "500"), (2_000, "2,000")];
-            let reached = lengths.iter().filter(|(least, _)| events.len() >= *least);
-            rows.extend(reached.map(|(_, least)| format!("explanation of {least} events or more")));
+            rows.extend(detail.map(|detail| format!("{word}, {detail}")));
         }
         _ => {}
     }
     rows
+}
+
+fn explanation_rows(points: u32, events: &[Event]) -> impl Iterator<Item = &'static str> {
+    let is_conflict =
+        |event: &Event| matches!(event, Event::Stabilize { conflicts, .. } if *conflicts != 0);
+    marked([
+        (points >= 100, "explained, 100 points or more"),
+        (
+            points as usize > events.len() + 1,
+            "explained, with steps taken back",
+        ),
+        (events.iter().any(is_conflict), "explained, with a conflict"),
+        (events.len() >= 500, "explanation of 500 events or more"),
+        (events.len() >= 2_000, "explanation of 2,000 events or more"),
+    ])
+}
+
+/// The rows whose mark is true.
+fn marked<const N: usize>(rows: [(bool, &'static str); N]) -> impl Iterator<Item = &'static str> {
+    rows.into_iter()
+        .filter(|(mark, _)| *mark)
+        .map(|(_, row)| row)
 }
 
 fn word(answer: &Answer) -> String {
@@ -182,18 +208,13 @@ fn refusal_detail(refusal: Refusal) -> Option<&'static str> {
     }
 }
 
-fn memory_rows(call: &Call) -> Vec<&'static str> {
-    let kinds = [
+fn memory_rows(call: &Call) -> impl Iterator<Item = &'static str> {
+    marked([
         (call.area.len() != AREA, "area not of 12 bytes"),
         (call.null && call.file.is_empty(), "file is null"),
         (call.null && call.room.is_empty(), "room is null"),
         (call.null && call.area.is_empty(), "area is null"),
-    ];
-    kinds
-        .into_iter()
-        .filter(|(is, _)| *is)
-        .map(|(_, row)| row)
-        .collect()
+    ])
 }
 
 fn file_rows(traces: &Traces) -> Vec<String> {
@@ -207,7 +228,7 @@ fn file_rows(traces: &Traces) -> Vec<String> {
     rows
 }
 
-fn number_rows(number: u32, bodies: u32) -> Option<String> {
+fn number_row(number: u32, bodies: u32) -> Option<String> {
     let name = match number {
         0 => "0",
         257 => "257",
@@ -219,27 +240,22 @@ fn number_rows(number: u32, bodies: u32) -> Option<String> {
     Some(format!("trace number {name}"))
 }
 
-/// What is told of a trace that is there: its length, its room, its writes.
-fn trace_rows(call: &Call, tablets: u8, trace: &[Event], answer: &Answer) -> Vec<String> {
-    let need = 2 * longest(tablets, trace);
+/// What is told of a trace that is there: its length and its room.
+fn trace_rows(call: &Call, need: usize, trace: &[Event]) -> impl Iterator<Item = &'static str> {
     let room = call.room.len();
-    let writes = trace.iter().filter(|event| event.is_write()).count();
-    let kinds = [
+    marked([
         (trace.is_empty(), "trace of no records"),
-        (trace.len() == 256, "trace of 256 records"),
+        (trace.len() == MOST_RECORDS, "trace of 256 records"),
         (room < need, "room too short"),
         (room + 1 == need, "room one byte too short"),
-        (room == need && room > 0, "room exactly enough"),
-    ];
-    let mut rows: Vec<String> = kinds
-        .into_iter()
-        .filter(|(is, _)| *is)
-        .map(|(_, row)| row.to_string())
-        .collect();
-    if writes >= 3 && !matches!(answer, Answer::Refused(_)) {
-        rows.push(format!("{}, three writes or more", word(answer)));
-    }
-    rows
+        (room == need && need > 0, "room exactly enough"),
+    ])
+}
+
+fn writes_row(trace: &[Event], answer: &Answer) -> Option<String> {
+    let writes = trace.iter().filter(|event| event.is_write()).count();
+    let walked = !matches!(answer, Answer::Refused(_));
+    (writes >= 3 && walked).then(|| format!("{}, three writes or more", word(answer)))
 }
 
 fn edge_row(edge: Edge) -> Option<&'static str> {
