@@ -11,7 +11,7 @@ use crate::wrong::Wrong;
 pub fn compare(count: u64, seed: u64) -> Result<(), String> {
     let tally = run(count, seed)?;
     println!("{}", tally.table(count));
-    println!("Refusal 10 is believed never to occur and has no minimum.");
+    println!("Refusal 10 is believed never to occur and so has no minimum.");
     let short = tally.short(count);
     if !short.is_empty() {
         return Err(format!("too few calls of these kinds: {short:?}"));

@@ -4,18 +4,24 @@ use crate::dice::Dice;
 use crate::file::RECORD;
 use crate::sheet::{Record, Sheet};
 
-/// The bytes of the sheet with one fault, now and then with two or more.
+/// The bytes of the sheet with one fault, now and then with two.
 pub fn damaged(dice: &mut Dice, mut sheet: Sheet) -> Vec<u8> {
-    let place = dice.below(8);
-    if place < 4 {
+    let faults = dice.pick(&[
+        (1, 0),
+        (1, 0),
+        (1, 0),
+        (1, 1),
+        (0, 1),
+        (0, 1),
+        (0, 1),
+        (0, 2),
+    ]);
+    for _ in 0..faults.0 {
         spoil_sheet(dice, &mut sheet);
     }
     let mut bytes = sheet.encode();
-    while place >= 3 {
+    for _ in 0..faults.1 {
         spoil_bytes(dice, &mut bytes, sheet.bodies.len());
-        if dice.chance(4, 5) {
-            break;
-        }
     }
     bytes
 }

@@ -36,16 +36,15 @@ pub fn draw(seed: u64, number: u64) -> Drawn {
     } else {
         sheet.encode()
     };
-    let (budget, edge, need) = match file::read(&file) {
-        Ok(traces) => match traces.trace(trace) {
-            Ok(asked) => {
-                let (budget, edge) = budget(dice, traces.tablets, asked);
-                (budget, edge, 2 * longest(traces.tablets, asked))
-            }
-            Err(_) => (dice.throw() as u32, Edge::Elsewhere, 24),
-        },
-        Err(_) => (dice.throw() as u32, Edge::Elsewhere, 24),
+    let asked = file::read(&file).and_then(|traces| {
+        let asked = traces.trace(trace)?;
+        Ok((traces.tablets, asked.to_vec()))
+    });
+    let (budget, edge) = match &asked {
+        Ok((tablets, asked)) => budget(dice, *tablets, asked),
+        Err(_) => (dice.throw() as u32, Edge::Elsewhere),
     };
+    let need = asked.map_or(24, |(tablets, asked)| 2 * longest(tablets, &asked));
     let room_length = room_length(dice, need);
     let area_length = area_length(dice);
     let call = Call {

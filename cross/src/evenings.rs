@@ -27,8 +27,9 @@ impl Drawer<'_> {
         match self.dice.below(40) {
             0 => MOST_RECORDS,
             1..=2 => self.dice.below(MOST_RECORDS + 1),
-            3..=9 => self.dice.below(25),
-            _ => self.dice.below(9),
+            3..=5 => self.dice.below(4),
+            6..=13 => self.dice.below(25),
+            _ => 3 + self.dice.below(8),
         }
     }
 
@@ -55,7 +56,8 @@ impl Drawer<'_> {
             if self.dice.chance(haste, 4) {
                 state = self.hidden(state).unwrap_or(state);
             }
-            if self.dice.chance(1, 10) {
+            let last = trace.len() + 1 == length;
+            if self.dice.chance(if last { 5 } else { 1 }, 10) {
                 state = self.settled(state);
                 trace.push(state.rest());
                 continue;
@@ -102,14 +104,18 @@ impl Drawer<'_> {
         state
     }
 
-    /// An honest trace with one observation changed, mostly an early one.
+    /// An honest trace with one observation changed: an early one, any one or
+    /// the last.
     fn disturbed(&mut self) -> Vec<Event> {
         let mut trace = self.honest();
         if trace.is_empty() {
             trace.push(self.observation());
         }
-        let reach = if self.dice.chance(2, 3) { 6 } else { 256 };
-        let place = self.dice.below(trace.len().min(reach));
+        let place = match self.dice.below(4) {
+            0..=1 => self.dice.below(trace.len().min(6)),
+            2 => self.dice.below(trace.len()),
+            _ => trace.len() - 1,
+        };
         trace[place] = self.changed(trace[place]);
         trace
     }
@@ -131,9 +137,13 @@ impl Drawer<'_> {
                 new: self.value(),
                 seen,
             },
-            (Event::Stabilize { seen, conflicts }, 1..=2) => Event::Stabilize {
+            (Event::Stabilize { seen, conflicts }, 1) => Event::Stabilize {
                 seen,
                 conflicts: conflicts ^ self.conflicts(),
+            },
+            (Event::Stabilize { seen, conflicts }, 2) => Event::Stabilize {
+                seen,
+                conflicts: conflicts & conflicts.wrapping_sub(1),
             },
             (Event::Stabilize { conflicts, .. }, _) => Event::Stabilize {
                 seen: self.value(),

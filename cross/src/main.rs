@@ -16,6 +16,7 @@ mod refusal;
 mod report;
 mod sheet;
 mod shrink;
+mod smaller;
 mod speed;
 mod stack;
 mod tally;

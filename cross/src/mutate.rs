@@ -23,7 +23,9 @@ pub fn mutate(seed: u64) -> Result<(), String> {
             Some(&first) => {
                 let calls = telling.len();
                 println!("{name}: first told by call {first}, in all by {calls} of {WITHIN}");
-                show(&report::shrunken(&numbered(seed, first), wrong), wrong);
+                let small = report::shrunken(&numbered(seed, first), wrong);
+                println!("  {}", report::notation(&small));
+                println!("{}", report::sides(&small, wrong));
             }
             None => untold.push(name),
         }
@@ -44,12 +46,4 @@ fn numbered(seed: u64, number: u64) -> Call {
 
 fn tells(call: &Call, wrong: Wrong) -> bool {
     library::outcome(call) != call::outcome(call, wrong)
-}
-
-fn show(call: &Call, wrong: Wrong) {
-    let library = report::outcome(&library::outcome(call));
-    let faulty = report::outcome(&call::outcome(call, wrong));
-    println!("    {}", report::notation(call));
-    println!("    library: {library}");
-    println!("    faulty:  {faulty}");
 }

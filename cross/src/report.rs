@@ -12,9 +12,11 @@ use crate::{call, wrong::Wrong};
 pub fn difference(call: &Call, wrong: Wrong) -> String {
     let small = shrunken(call, wrong);
     format!(
-        "the first difference:\n{}\nshrunken:\n{}\n{}",
-        in_full(call, wrong),
-        in_full(&small, wrong),
+        "the first difference:\n{}\n{}\nshrunken:\n{}\n{}\n  {}",
+        asked(call),
+        sides(call, wrong),
+        asked(&small),
+        sides(&small, wrong),
         notation(&small),
     )
 }
@@ -28,19 +30,25 @@ pub fn shrunken(call: &Call, wrong: Wrong) -> Call {
     })
 }
 
-fn in_full(call: &Call, wrong: Wrong) -> String {
+fn asked(call: &Call) -> String {
+    format!(
+        "  file of {} bytes {}\n  \
+         trace {}, budget {}, room of {} bytes, area of {} bytes, null where empty: {}",
+        call.file.len(),
+        hex(&call.file),
+        call.trace,
+        call.budget,
+        call.room.len(),
+        call.area.len(),
+        call.null,
+    )
+}
+
+/// Both outcomes and the first byte in which each memory differs.
+pub fn sides(call: &Call, wrong: Wrong) -> String {
     let library = library::outcome(call);
     let other = call::outcome(call, wrong);
     let mut lines = vec![
-        format!("  file {}", hex(&call.file)),
-        format!(
-            "  trace {}, budget {}, room of {} bytes, area of {} bytes, null where empty: {}",
-            call.trace,
-            call.budget,
-            call.room.len(),
-            call.area.len(),
-            call.null,
-        ),
         format!("  library: {}", outcome(&library)),
         format!("  other:   {}", outcome(&other)),
     ];
