@@ -1,9 +1,21 @@
-// A plain walk to measure ours beside: the table of events and the ordered walk, written straight down. It takes a good
-// trace file on standard input and walks its first trace with a budget of 3,000,000 points. It checks nothing.
+/* The speed of the library beside a plain walk in C: the table of events and the ordered walk, written straight down, with the
+ * state as a struct by value and the marks as bits. The plain walk checks nothing and takes good files only.
+ *
+ * Build and run, after `rt staticlib console`:
+ *   gcc -O3 -Iinclude -o target/speed measure/speed.c target/staticlib/libconsole.a
+ *   target/speed cross/evenings/n*.trace
+ *
+ * Both walk the first trace of each file in turn, with a budget of 3,000,000 points, and have to visit as many points. The
+ * best of 15 rounds counts.
+ */
+#include "sklandupa.h"
+
 #include <stdbool.h>
-#include <stdint.h>
 #include <stdio.h>
 #include <string.h>
+#include <time.h>
+
+enum { BUDGET = 3000000, ROUNDS = 15 };
 
 struct state {
     uint64_t conflicts;
@@ -16,7 +28,7 @@ enum found { NOTHING, END, SPENT, DEEP };
 struct walk {
     const uint8_t *end;
     uint8_t *room;
-    uint32_t tablets, budget, points, events, limit;
+    uint32_t tablets, points, limit;
 };
 
 static uint64_t set_of(const uint8_t *record) {
@@ -69,7 +81,7 @@ static struct state then_down(struct state s, uint32_t t) {
 static enum found visit(struct walk *w, struct state s, const uint8_t *at, uint32_t depth);
 
 static enum found child(struct walk *w, struct state s, const uint8_t *at, uint32_t depth, uint8_t kind, uint8_t tablet) {
-    if (w->points == w->budget) return SPENT;
+    if (w->points == BUDGET) return SPENT;
     if (depth == w->limit) return DEEP;
     enum found f = visit(w, s, at, depth + 1);
     if (f == END) {
@@ -81,10 +93,7 @@ static enum found child(struct walk *w, struct state s, const uint8_t *at, uint3
 
 static enum found visit(struct walk *w, struct state s, const uint8_t *at, uint32_t depth) {
     w->points++;
-    if (at == w->end) {
-        w->events = depth;
-        return END;
-    }
+    if (at == w->end) return END;
     if (may_observe(w, &s, at)) {
         enum found f = child(w, then_observe(s, at), at + 12, depth, at[0], at[1]);
         if (f != NOTHING) return f;
@@ -104,38 +113,57 @@ static enum found visit(struct walk *w, struct state s, const uint8_t *at, uint3
     return NOTHING;
 }
 
-static uint32_t writes_in(const uint8_t *body, uint32_t records) {
-    uint32_t writes = 0;
+static uint8_t file[65536], room[SKLANDUPA_ROOM], area[SKLANDUPA_AREA];
+
+static uint32_t plain(void) {
+    const uint8_t *body = file + 4 + 4 * file[3];
+    uint32_t records = file[6] + 256 * file[7], writes = 0;
     for (uint32_t i = 0; i < records; i++) writes += body[12 * i] == 2;
-    return writes;
+    struct walk w = {body + 12 * records, room, file[1], 0, records + file[1] * writes};
+    struct state first = {.fresh = (1u << file[1]) - 1};
+    visit(&w, first, body, 0);
+    return w.points;
 }
 
-int main(void) {
-    static uint8_t file[65536], room[4608];
-    if (fread(file, 1, sizeof file, stdin) < 8) return 1;
-    const uint8_t *body = file + 4 + 4 * file[3];
-    uint32_t records = file[6] + 256 * file[7];
-    struct state first = {.fresh = (1u << file[1]) - 1};
-    struct walk w = {
-        .end = body + 12 * records,
-        .room = room,
-        .tablets = file[1],
-        .budget = 3000000,
-        .limit = records + file[1] * writes_in(body, records),
-    };
-    switch (visit(&w, first, body, 0)) {
-    case END:
-        printf("explained, %u points, %u events\n", w.points, w.events);
-        break;
-    case NOTHING:
-        printf("unexplained, %u points\n", w.points);
-        break;
-    case SPENT:
-        printf("undecided, %u points\n", w.points);
-        break;
-    case DEEP:
-        printf("too deep\n");
-        break;
+static uint32_t library(size_t length) {
+    sklandupa_explain(file, length, 1, BUDGET, room, sizeof room, area, sizeof area);
+    return area[0] | (uint32_t)area[1] << 8 | (uint32_t)area[2] << 16 | (uint32_t)area[3] << 24;
+}
+
+static double seconds(void) {
+    struct timespec now;
+    clock_gettime(CLOCK_PROCESS_CPUTIME_ID, &now);
+    return now.tv_sec + now.tv_nsec / 1e9;
+}
+
+/* Measures one file, and says whether both visited as many points. */
+static bool measure(const char *name) {
+    FILE *opened = fopen(name, "rb");
+    if (!opened) {
+        perror(name);
+        return false;
     }
-    return 0;
+    size_t length = fread(file, 1, sizeof file, opened);
+    fclose(opened);
+    double best_plain = 1e9, best_ours = 1e9;
+    uint32_t points_plain = 0, points_ours = 0;
+    for (int round = 0; round < ROUNDS; round++) {
+        double start = seconds();
+        points_plain = plain();
+        double middle = seconds();
+        points_ours = library(length);
+        double end = seconds();
+        if (middle - start < best_plain) best_plain = middle - start;
+        if (end - middle < best_ours) best_ours = end - middle;
+    }
+    printf("%-32s %8u points   ours/plain %.2f   ours %.0f million points a second\n", name, points_ours, best_ours / best_plain,
+           points_ours / best_ours / 1e6);
+    return points_ours == points_plain;
+}
+
+int main(int count, char **names) {
+    bool same = true;
+    for (int i = 1; i < count; i++) same &= measure(names[i]);
+    if (!same) printf("the two did not visit as many points\n");
+    return !same;
 }
