@@ -1,0 +1,84 @@
+-- Texts put one after the other make one text.
+-- Assumes nothing.
+use mathlib.Core.List.{List, [], _∷_, _++_, append-assoc, append-nil}
+use mathlib.Core.Path.{_≡_, refl, sym, ap, ap₂, _∙_, subst}
+use Prim.Native.Nat.{ℕ, suc, _+_, _-_, _≤_, _<_}
+use native.Mathlib.Numerals.{add-one}
+use native.Mathlib.Omega.{arith}
+use lib.ListN.{length, take, drop, set, length-append, length-take, length-drop, drop-of-length-le}
+use lib.Seq.{length-take-le, take-at, drop-at, take-length, take-all, drop-drop, set-split, drop-append-add}
+use Rattle.lines.specs.Put.{Stands, Put}
+
+-- one that does not fit is not asked for
+pub left-out : (text out : List ℕ) (at next : ℕ) (last : List ℕ) → length out < at + length text → Put text out at next last
+left-out text out at next last h = λ fits. absurd (omega arith)
+
+-- a byte is stored
+pub byte-put : (byte at : ℕ) (out : List ℕ) → at < length out → Put (byte ∷ []) out at (at + 1) (set out at byte)
+byte-put byte at out h = λ fits. record { ends = refl; bytes = rw add-one (set-split out at byte h) }
+
+-- words are copied into the part that is as long as they are
+pub words-put : (words out copied : List ℕ) (at : ℕ) → at + length words ≤ length out
+    → copied ≡ take (length words) words ++ drop (length words) (take (at + length words - at) (drop at out))
+    → Put words out at (at + length words) (take at out ++ (copied ++ drop (at + length words - at) (drop at out)))
+words-put words out copied at h copy =
+    let e : at + length words - at ≡ length words = omega arith in
+    let short : length (take (at + length words - at) (drop at out)) ≤ length words = rw length-take (omega arith) in
+    let nothing = drop-of-length-le (take (at + length words - at) (drop at out)) {i = length words} short in
+    let whole : copied ≡ words = copy ∙ ap₂ _++_ (take-length words) nothing ∙ append-nil words in
+    λ fits. record {
+      ends = refl;
+      bytes = rw (whole, e, drop-drop);
+    }
+
+-- ---- one after the other
+
+module _ (first out : List ℕ) (at middle : ℕ) (between : List ℕ) (fits : at + length first ≤ length out)
+    (stands : Stands first out at middle between) where
+  abbrev front : List ℕ
+  front = take at out ++ first
+
+  front-ends : length front ≡ middle
+  front-ends = length-append (take at out) first ∙ ap (λ (n : ℕ). n + length first) (length-take-le at out (omega arith)) ∙ sym (stands .ends)
+
+  abbrev rest : List ℕ
+  rest = drop (at + length first) out
+
+  split : between ≡ front ++ rest
+  split = stands .bytes ∙ sym (append-assoc (take at out) first rest)
+
+  -- the bytes are as many as they were
+  pub as-long : length between ≡ length out
+  as-long = ap length split ∙ length-append front rest ∙ omega (arith, front-ends, stands .ends, length-drop (at + length first) out)
+
+  -- the text so far stands before the place that was reached
+  before : take middle between ≡ front
+  before = ap (take middle) split ∙ take-at front rest middle front-ends
+
+  -- and after it nothing has changed
+  behind : (n : ℕ) → drop (middle + n) between ≡ drop (at + length first + n) out
+  behind n =
+      ap (drop (middle + n)) split
+      ∙ ap (λ (m : ℕ). drop (m + n) (front ++ rest)) (sym front-ends)
+      ∙ drop-append-add front rest n
+      ∙ drop-drop n (at + length first) out
+
+-- the place and the bytes that the first text leaves are those that the second finds
+pub then-put : (first second out between : List ℕ) (at middle next : ℕ) (last : List ℕ)
+    → Put first out at middle between → Put second between middle next last → Put (first ++ second) out at next last
+then-put first second out between at middle next last p q = λ fits.
+    let l = length-append first second in
+    let h : at + length first ≤ length out = omega arith in
+    let s = p h in
+    let long = as-long first out at middle between h s in
+    let g : middle + length second ≤ length between = omega (arith, s .ends) in
+    let t = q g in
+    let e : at + length first + length second ≡ at + length (first ++ second) = omega arith in
+    record {
+      ends = t .ends ∙ omega (arith, s .ends);
+      bytes =
+        t .bytes
+        ∙ ap₂ _++_ (before first out at middle between h s) (ap (λ (l : List ℕ). second ++ l) (behind first out at middle between h s (length second) ∙ ap (λ (n : ℕ). drop n out) e))
+        ∙ append-assoc (take at out) first (second ++ drop (at + length (first ++ second)) out)
+        ∙ ap (λ (l : List ℕ). take at out ++ l) (sym (append-assoc first second (drop (at + length (first ++ second)) out)));
+    }
