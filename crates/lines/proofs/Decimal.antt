@@ -3,7 +3,7 @@
 use mathlib.Core.Bool.{Bool, true, false, cond}
 use mathlib.Core.List.{List, [], _∷_, _++_}
 use mathlib.Core.Path.{_≡_, refl, sym, ap, ap₂, _∙_}
-use Prim.Native.Nat.{ℕ, zero, suc, _+_, _-_, _*_, _/_, _%_, _≤_, _<_}
+use Prim.Native.Nat.{ℕ, zero, suc, _+_, _-_, _*_, _/_, _%_, _^_, _≤_, _<_}
 use native.Mathlib.Omega.{arith}
 use lib.Dec.{ltb}
 use lib.ListN.{length, length-append}
@@ -43,6 +43,27 @@ decimal-more (suc n) h =
     let e : n ≡ (n - (suc n / 10)) + suc n / 10 = omega arith in
     rw (le-ltb (suc n) 10 h)
     (ap (λ (l : List ℕ). l ++ (digit (suc n) ∷ [])) (ap (λ (m : ℕ). digits m (suc n / 10)) e ∙ all-digits (n - (suc n / 10)) (suc n / 10)))
+
+-- ---- how many there are
+
+-- the first number with more than so many digits and one
+more-than : ℕ → ℕ
+more-than zero = 10
+more-than (suc many) = 10 * more-than many
+
+few-digits : (many n : ℕ) → n < more-than many → length (decimal n) ≤ suc many
+unfolding more-than
+few-digits zero n h = rw (decimal-one n h) (omega arith)
+few-digits (suc many) n h = go (ltb n 10) refl (few-digits many (n / 10) (omega arith))
+  where
+    go : (t : Bool) → ltb n 10 ≡ t → length (decimal (n / 10)) ≤ suc many → length (decimal n) ≤ suc (suc many)
+    go true e less = rw (decimal-one n (ltb-true n 10 e)) (omega arith)
+    go false e less = rw (decimal-more n (ltb-false n 10 e), length-append) (omega arith)
+
+-- a number of 32 bits has at most 10
+pub ten-digits : (n : ℕ) → n < 2 ^ 32 → length (decimal n) ≤ 10
+unfolding more-than
+ten-digits n h = few-digits 9 n (omega arith)
 
 -- ---- digits that are put
 

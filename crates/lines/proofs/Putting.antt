@@ -3,24 +3,29 @@
 use mathlib.Core.List.{List, [], _∷_, _++_, append-assoc, append-nil}
 use mathlib.Core.Path.{_≡_, refl, sym, ap, ap₂, _∙_, subst}
 use Prim.Native.Nat.{ℕ, suc, _+_, _-_, _≤_, _<_}
+use native.Mathlib.Nat.{zero-add}
 use native.Mathlib.Numerals.{add-one}
 use native.Mathlib.Omega.{arith}
+use borrow.Author.Tests.{lt-ltb, le-ltb}
 use lib.ListN.{length, take, drop, set, length-append, length-take, length-drop, drop-of-length-le}
 use lib.Seq.{length-take-le, take-at, drop-at, take-length, take-all, drop-drop, set-split, drop-append-add}
-use Rattle.lines.specs.Put.{Stands, Put}
+use Rattle.lines.specs.Put.{Stands, Put, written, after}
 
 -- one that does not fit is not asked for
 pub left-out : (text out : List ℕ) (at next : ℕ) (last : List ℕ) → length out < at + length text → Put text out at next last
+unfolding Put
 left-out text out at next last h = λ fits. absurd (omega arith)
 
 -- a byte is stored
 pub byte-put : (byte at : ℕ) (out : List ℕ) → at < length out → Put (byte ∷ []) out at (at + 1) (set out at byte)
+unfolding Put
 byte-put byte at out h = λ fits. record { ends = refl; bytes = rw add-one (set-split out at byte h) }
 
 -- words are copied into the part that is as long as they are
 pub words-put : (words out copied : List ℕ) (at : ℕ) → at + length words ≤ length out
     → copied ≡ take (length words) words ++ drop (length words) (take (at + length words - at) (drop at out))
     → Put words out at (at + length words) (take at out ++ (copied ++ drop (at + length words - at) (drop at out)))
+unfolding Put
 words-put words out copied at h copy =
     let e : at + length words - at ≡ length words = omega arith in
     let short : length (take (at + length words - at) (drop at out)) ≤ length words = rw length-take (omega arith) in
@@ -66,6 +71,7 @@ module _ (first out : List ℕ) (at middle : ℕ) (between : List ℕ) (fits : a
 -- the place and the bytes that the first text leaves are those that the second finds
 pub then-put : (first second out between : List ℕ) (at middle next : ℕ) (last : List ℕ)
     → Put first out at middle between → Put second between middle next last → Put (first ++ second) out at next last
+unfolding Put
 then-put first second out between at middle next last p q = λ fits.
     let l = length-append first second in
     let h : at + length first ≤ length out = omega arith in
@@ -82,3 +88,31 @@ then-put first second out between at middle next last p q = λ fits.
         ∙ append-assoc (take at out) first (second ++ drop (at + length (first ++ second)) out)
         ∙ ap (λ (l : List ℕ). take at out ++ l) (sym (append-assoc first second (drop (at + length (first ++ second)) out)));
     }
+
+-- the same text, written otherwise
+pub put-as : {text same : List ℕ} (out : List ℕ) (at next : ℕ) (last : List ℕ) → text ≡ same → Put text out at next last → Put same out at next last
+put-as out at next last e p = subst (λ (t : List ℕ). Put t out at next last) e p
+
+-- a third after two
+pub after-put : (first second third out between : List ℕ) (at middle next : ℕ) (last : List ℕ)
+    → Put (first ++ second) out at middle between → Put third between middle next last → Put (first ++ (second ++ third)) out at next last
+after-put first second third out between at middle next last p q =
+    put-as out at next last (append-assoc first second third) (then-put (first ++ second) third out between at middle next last p q)
+
+-- ---- a whole line
+
+abbrev pub Line : ℕ → List ℕ → List ℕ → ℕ → List ℕ → Type 0
+Line room text out count last = (count ≡ written room text out) × (last ≡ after room text out)
+
+-- where there is room for the longest, the line stands at the front
+pub line-put : (room : ℕ) (text out : List ℕ) (count : ℕ) (last : List ℕ) → room ≤ length out → length text ≤ room
+    → Put text out 0 count last → Line room text out count last
+unfolding Put written after
+line-put room text out count last enough short p =
+    let s = p (omega arith) in
+    rw (le-ltb (length out) room enough) (s .ends ∙ omega arith, s .bytes ∙ ap (λ (n : ℕ). text ++ drop n out) (zero-add (length text)))
+
+-- otherwise nothing is written
+pub line-kept : (room : ℕ) (text out : List ℕ) → length out < room → Line room text out 0 out
+unfolding written after
+line-kept room text out h = rw (lt-ltb (length out) room h) (refl, refl)

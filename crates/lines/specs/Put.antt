@@ -16,11 +16,11 @@ abbrev pub events-room : List ℕ → ℕ
 events-room events = 3 * (length events / 2) + 1
 
 -- how many bytes are written
-abbrev pub written : ℕ → List ℕ → List ℕ → ℕ
+unfoldable pub written : ℕ → List ℕ → List ℕ → ℕ
 written room text out = cond (ltb (length out) room) 0 (length text)
 
 -- the bytes afterwards: the text, and then the later bytes as they were
-abbrev pub after : ℕ → List ℕ → List ℕ → List ℕ
+unfoldable pub after : ℕ → List ℕ → List ℕ → List ℕ
 after room text out = cond (ltb (length out) room) out (text ++ drop (length text) out)
 
 -- ---- a text that is put in the bytes from a place on
@@ -30,5 +30,5 @@ pub record Stands (text out : List ℕ) (at next : ℕ) (last : List ℕ) : Type
   pub bytes : last ≡ take at out ++ (text ++ drop (at + length text) out)
 
 -- it stands there, if it fits
-abbrev pub Put : List ℕ → List ℕ → ℕ → ℕ → List ℕ → Type 0
+unfoldable pub Put : List ℕ → List ℕ → ℕ → ℕ → List ℕ → Type 0
 Put text out at next last = at + length text ≤ length out → Stands text out at next last

@@ -56,13 +56,19 @@ pub fn put_number(words: &[u8], number: u32, out: &mut [u8], at: usize) -> usize
 fn letter(kind: u8) -> u8
     ensures { λ r. ⌜ r ≡ event-letter kind ⌝ }
 {
-    match kind {
-        1 => b'R',
-        2 => b'W',
-        5 => b'U',
-        6 => b'D',
-        _ => b'?',
+    if kind == 1 {
+        return b'R';
     }
+    if kind == 2 {
+        return b'W';
+    }
+    if kind == 5 {
+        return b'U';
+    }
+    if kind == 6 {
+        return b'D';
+    }
+    b'?'
 }
 
 // Puts an event.

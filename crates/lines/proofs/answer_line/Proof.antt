@@ -1,3 +1,6 @@
+use native.Mathlib.Omega.{arith}
+use Rattle.lines.proofs.Putting.{line-kept}
+use Rattle.lines.proofs.Said.{answer-put}
 use borrow.Author.Needs.{needs}
 use Rattle.lines.proofs.answer_line.Statement.{statement}
 use Rattle.lines.proofs.answer_line.Tie as tie
@@ -9,7 +12,7 @@ use Rattle.lines.proofs.put_said.Reads as put-said-reads
 
 -- src/lib.rt:62:9
 returns : tie.Need-returns
-returns c = ?
+returns c = line-kept _ _ _ (c .if1 .taken)
 
 -- src/lib.rt:64:27
 slice-aggregate-put-number : tie.Need-slice-aggregate-put-number
@@ -37,7 +40,7 @@ same-length c = search needs
 
 -- src/lib.rt:57:1
 returns-2 : tie.Need-returns-2
-returns-2 c = ?
+returns-2 c = answer-put _ _ _ _ _ _ _ _ _ (omega arith) (c .before .before .before .before .before .before .before .before .before .before .before .before .before .before .if1 .left) (c .before .before .before .before .before .before .before .before .before .before .before .put-number .ensures) (c .before .before .before .before .before .before .put .ensures) (c .before .before .put-said .ensures)
 
 pub answer-line-spec : {M : Type 1} → statement M
 answer-line-spec =

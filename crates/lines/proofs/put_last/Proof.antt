@@ -1,3 +1,6 @@
+use denote.Ref.{now}
+use Rattle.lines.specs.Text.{decimal, line-end}
+use Rattle.lines.proofs.Putting.{after-put}
 use borrow.Author.Needs.{needs}
 use Rattle.lines.proofs.put_last.Statement.{statement}
 use Rattle.lines.proofs.put_last.Tie as tie
@@ -24,7 +27,7 @@ same-length c = search needs
 
 -- src/lib.rt:20:1
 returns : tie.Need-returns
-returns c = ?
+returns c = after-put (now (c .before .before .before .before .before .before .before .before .before .before .before .args .words)) (decimal (c .before .before .before .before .before .before .before .before .before .before .before .args .number)) line-end _ _ _ _ _ _ (c .before .before .before .before .before .before .before .put-number .ensures) (c .before .before .put .ensures)
 
 pub put-last-spec : {M : Type 1} → statement M
 put-last-spec =

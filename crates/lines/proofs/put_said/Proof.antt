@@ -1,3 +1,5 @@
+use native.Mathlib.Omega.{arith}
+use Rattle.lines.proofs.Said.{explained-put, unexplained-put, undecided-put, refused-put, no-room-put, too-deep-put}
 use borrow.Author.Needs.{needs}
 use Rattle.lines.proofs.put_said.Statement.{statement}
 use Rattle.lines.proofs.put_said.Tie as tie
@@ -86,7 +88,7 @@ same-length c = search needs
 
 -- src/lib.rt:36:1
 returns : tie.Need-returns
-returns c = ?
+returns c = explained-put _ _ _ _ _ _ _ _ _ (c .before .before .before .before .before .before .before .before .before .before .before .verdict .given .1) (omega arith) (omega arith) (c .before .before .before .before .before .before .before .put-number .ensures) (c .before .before .put-last .ensures)
 
 -- src/lib.rt:36:1
 same-length-2 : tie.Need-same-length-2
@@ -94,7 +96,7 @@ same-length-2 c = search needs
 
 -- src/lib.rt:36:1
 returns-2 : tie.Need-returns-2
-returns-2 c = ?
+returns-2 c = unexplained-put _ _ _ _ _ _ (c .before .before .before .before .before .before .verdict2 .given .1) (omega arith) (c .before .before .put-last2 .ensures)
 
 -- src/lib.rt:36:1
 same-length-3 : tie.Need-same-length-3
@@ -102,7 +104,7 @@ same-length-3 c = search needs
 
 -- src/lib.rt:36:1
 returns-3 : tie.Need-returns-3
-returns-3 c = ?
+returns-3 c = undecided-put _ _ _ _ _ _ (c .before .before .before .before .before .before .verdict3 .given .1) (omega arith) (c .before .before .put-last3 .ensures)
 
 -- src/lib.rt:36:1
 same-length-4 : tie.Need-same-length-4
@@ -110,7 +112,7 @@ same-length-4 c = search needs
 
 -- src/lib.rt:36:1
 returns-4 : tie.Need-returns-4
-returns-4 c = ?
+returns-4 c = refused-put _ _ _ _ _ _ _ _ (c .before .before .before .before .before .before .verdict4 .given .1) (c .before .before .before .before .number-and-place .ensures) (c .before .before .put-refusal .ensures)
 
 -- src/lib.rt:36:1
 same-length-5 : tie.Need-same-length-5
@@ -118,7 +120,7 @@ same-length-5 c = search needs
 
 -- src/lib.rt:36:1
 returns-5 : tie.Need-returns-5
-returns-5 c = ?
+returns-5 c = no-room-put _ _ _ _ _ (c .before .before .before .before .enum-told .given .1) (c .before .before .put-refusal2 .ensures)
 
 -- src/lib.rt:36:1
 same-length-6 : tie.Need-same-length-6
@@ -126,7 +128,7 @@ same-length-6 c = search needs
 
 -- src/lib.rt:36:1
 returns-6 : tie.Need-returns-6
-returns-6 c = ?
+returns-6 c = too-deep-put _ _ _ _ _ (c .before .before .before .before .enum-told2 .given .1) (c .before .before .put-refusal3 .ensures)
 
 pub put-said-spec : {M : Type 1} → statement M
 put-said-spec =

@@ -1,3 +1,6 @@
+use borrow.Author.Tests.{eq-eqb, ne-eqb}
+use Rattle.lines.specs.Text.{event-text}
+use Rattle.lines.proofs.Putting.{then-put}
 use borrow.Author.Needs.{needs}
 use Rattle.lines.proofs.pieces.put_event.Statement.{statement}
 use Rattle.lines.proofs.pieces.put_event.Tie as tie
@@ -21,7 +24,8 @@ same-length c = search needs
 
 -- src/pieces.rt:73:9
 returns : tie.Need-returns
-returns c = ?
+unfolding event-text
+returns c = rw (eq-eqb _ _ (c .before .before .before .before .before .if1 .taken)) (c .before .before .put .ensures)
 
 -- src/pieces.rt:76:20
 slice-aggregate-put-2 : tie.Need-slice-aggregate-put-2
@@ -37,7 +41,8 @@ same-length-2 c = search needs
 
 -- src/pieces.rt:76:9
 returns-2 : tie.Need-returns-2
-returns-2 c = ?
+unfolding event-text
+returns-2 c = rw (ne-eqb _ _ (c .before .before .before .before .before .before .if1 .left), eq-eqb _ _ (c .before .before .before .before .before .if2 .taken)) (c .before .before .put2 .ensures)
 
 -- src/pieces.rt:78:25
 letter-requires : tie.Need-letter-requires
@@ -61,7 +66,8 @@ same-length-3 c = search needs
 
 -- src/pieces.rt:69:1
 returns-3 : tie.Need-returns-3
-returns-3 c = ?
+unfolding event-text
+returns-3 c = rw (ne-eqb _ _ (c .before .before .before .before .before .before .before .before .before .before .if1 .left), ne-eqb _ _ (c .before .before .before .before .before .before .before .before .before .if2 .left), ← c .before .before .before .before .before .before .before .before .letter .ensures) (then-put _ _ _ _ _ _ _ _ (c .before .before .before .before .before .before .put-byte .ensures) (c .before .before .put-byte2 .ensures))
 
 pub put-event-spec : {M : Type 1} → statement M
 put-event-spec =
