@@ -16,6 +16,16 @@ pub left-out : (text out : List ℕ) (at next : ℕ) (last : List ℕ) → lengt
 unfolding Put
 left-out text out at next last h = λ fits. absurd (omega arith)
 
+-- one that stands is put
+pub stood : (text out : List ℕ) (at next : ℕ) (last : List ℕ) → Stands text out at next last → Put text out at next last
+unfolding Put
+stood text out at next last s = λ fits. s
+
+-- and one that is put and fits stands
+pub standing : (text out : List ℕ) (at next : ℕ) (last : List ℕ) → at + length text ≤ length out → Put text out at next last → Stands text out at next last
+unfolding Put
+standing text out at next last fits p = p fits
+
 -- a byte is stored
 pub byte-put : (byte at : ℕ) (out : List ℕ) → at < length out → Put (byte ∷ []) out at (at + 1) (set out at byte)
 unfolding Put
