@@ -3,20 +3,26 @@
 use mathlib.Core.Bool.{Bool, true, false, cond}
 use mathlib.Core.List.{List, [], _++_, append-assoc, append-nil}
 use mathlib.Core.Path.{_≡_, refl, sym, ap, _∙_, subst}
-use Prim.Native.Nat.{ℕ, _+_, _-_, _≤_, _<_}
+use Prim.Native.Nat.{ℕ, _+_, _-_, _*_, _≤_, _<_}
 use native.Mathlib.Omega.{arith}
 use lib.Dec.{ltb}
-use lib.ListN.{length, take, drop, length-append, length-drop, take-append-drop}
+use lib.ListN.{length, take, drop, length-append, length-take, length-drop, take-append-drop}
 use lib.Seq.{length-take-le, drop-append-le, drop-drop}
 use borrow.Author.Tests.{le-ltb}
-use Rattle.lines.specs.Put.{Stands, written, after}
+use Rattle.lines.specs.Text.{events-text}
+use Rattle.lines.specs.Put.{Stands, events-room, written, after}
 use Rattle.lines.proofs.Putting.{Line, as-long, stood, standing, then-put}
-use Rattle.report.specs.Rooms.{PutIn}
+use Rattle.report.specs.Rooms.{room-size, explanation-room, PutIn}
 
 -- where there is not the room, nothing is asked
 pub left-out : (room : ℕ) (text out : List ℕ) (at next : ℕ) (last : List ℕ) → length out < at + room → PutIn room text out at next last
 unfolding PutIn
 left-out room text out at next last h = λ fits. absurd (omega arith)
+
+-- the same text, written otherwise
+pub in-as : {text same : List ℕ} (room : ℕ) (out : List ℕ) (at next : ℕ) (last : List ℕ) → text ≡ same
+    → PutIn room text out at next last → PutIn room same out at next last
+in-as room out at next last e p = subst (λ (t : List ℕ). PutIn room t out at next last) e p
 
 -- ---- a line written into a part
 
@@ -62,6 +68,19 @@ part-put need room text out at count copied h n p kept =
       short,
     )
 
+-- the line of the first events of a room
+pub events-put : (m : ℕ) (room out : List ℕ) (at count : ℕ) (copied : List ℕ) → at + explanation-room ≤ length out → 2 * m ≤ room-size
+    → Line (events-room (take (2 * m - 0) (drop 0 room))) (events-text (take (2 * m - 0) (drop 0 room)))
+    (take (at + explanation-room - at) (drop at out)) count copied
+    → length copied ≡ length (take (at + explanation-room - at) (drop at out))
+    → PutIn explanation-room (events-text (take (2 * m) room)) out at (at + count)
+    (take at out ++ (copied ++ drop (at + explanation-room - at) (drop at out)))
+events-put m room out at count copied h few p kept =
+    let e : 2 * m - 0 ≡ 2 * m = omega arith in
+    let short : events-room (take (2 * m - 0) (drop 0 room)) ≤ explanation-room = rw (e, length-take) (omega arith) in
+    in-as explanation-room out at (at + count) _ (ap (λ (n : ℕ). events-text (take n room)) e)
+    (part-put _ explanation-room _ out at count copied h short p kept)
+
 -- ---- one after the other
 
 pub then-in : (a b : ℕ) (first second out between : List ℕ) (at middle next : ℕ) (last : List ℕ)
@@ -82,8 +101,3 @@ then-in a b first second out between at middle next last p q = λ fits.
 pub wider : (a b : ℕ) (text out : List ℕ) (at next : ℕ) (last : List ℕ) → a ≤ b → PutIn a text out at next last → PutIn b text out at next last
 unfolding PutIn
 wider a b text out at next last h p = λ fits. let s = p (omega arith) in (s .0, omega (arith, s .1))
-
--- the same text, written otherwise
-pub in-as : {text same : List ℕ} (room : ℕ) (out : List ℕ) (at next : ℕ) (last : List ℕ) → text ≡ same
-    → PutIn room text out at next last → PutIn room same out at next last
-in-as room out at next last e p = subst (λ (t : List ℕ). PutIn room t out at next last) e p

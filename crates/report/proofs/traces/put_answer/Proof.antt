@@ -1,3 +1,5 @@
+use native.Mathlib.Omega.{arith}
+use Rattle.report.proofs.Parts.{left-out, count-fits, part-put}
 use borrow.Author.Needs.{needs}
 use Rattle.report.proofs.traces.put_answer.Statement.{statement}
 use Rattle.report.proofs.traces.put_answer.Tie as tie
@@ -7,7 +9,7 @@ use Rattle.lines.proofs.answer_line.Reads as answer-line-reads
 
 -- src/traces.rt:34:9
 returns : tie.Need-returns
-returns c = ?
+returns c = left-out _ _ _ _ _ _ (omega arith)
 
 -- src/traces.rt:36:8
 sub-if2 : tie.Need-sub-if2
@@ -15,7 +17,7 @@ sub-if2 c = search needs
 
 -- src/traces.rt:37:9
 returns-2 : tie.Need-returns-2
-returns-2 c = ?
+returns-2 c = left-out _ _ _ _ _ _ (omega arith)
 
 -- src/traces.rt:39:15
 add-end : tie.Need-add-end
@@ -39,7 +41,7 @@ answer-line-requires c κs = search needs
 
 -- src/traces.rt:40:5
 add-result : tie.Need-add-result
-add-result c = ?
+add-result c = omega (arith, count-fits _ _ _ _ _ (c .before .before .answer-line .ensures) (search needs))
 
 -- src/traces.rt:30:1
 same-length : tie.Need-same-length
@@ -47,7 +49,7 @@ same-length c = search needs
 
 -- src/traces.rt:30:1
 returns-3 : tie.Need-returns-3
-returns-3 c = ?
+returns-3 c = part-put _ _ _ _ _ _ _ (omega arith) (omega arith) (c .before .before .answer-line .ensures) (search needs)
 
 pub put-answer-spec : {M : Type 1} → statement M
 put-answer-spec =

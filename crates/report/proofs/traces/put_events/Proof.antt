@@ -1,3 +1,5 @@
+use native.Mathlib.Omega.{arith}
+use Rattle.report.proofs.Parts.{left-out, count-fits, events-put}
 use borrow.Author.Needs.{needs}
 use Rattle.report.proofs.traces.put_events.Statement.{statement}
 use Rattle.report.proofs.traces.put_events.Tie as tie
@@ -11,11 +13,11 @@ mul-size c = search needs
 
 -- src/traces.rt:49:9
 returns : tie.Need-returns
-returns c = ?
+returns c = λ few whole. absurd (omega arith)
 
 -- src/traces.rt:52:9
 returns-2 : tie.Need-returns-2
-returns-2 c = ?
+returns-2 c = λ few whole. left-out _ _ _ _ _ _ (omega arith)
 
 -- src/traces.rt:54:8
 sub-if3 : tie.Need-sub-if3
@@ -23,7 +25,7 @@ sub-if3 c = search needs
 
 -- src/traces.rt:55:9
 returns-3 : tie.Need-returns-3
-returns-3 c = ?
+returns-3 c = λ few whole. left-out _ _ _ _ _ _ (omega arith)
 
 -- src/traces.rt:57:15
 add-end : tie.Need-add-end
@@ -59,7 +61,7 @@ events-line-requires c κs = search needs
 
 -- src/traces.rt:58:5
 add-result : tie.Need-add-result
-add-result c = ?
+add-result c = omega (arith, count-fits _ _ _ _ _ (c .before .before .events-line .ensures) (search needs))
 
 -- src/traces.rt:44:1
 same-length : tie.Need-same-length
@@ -67,7 +69,7 @@ same-length c = search needs
 
 -- src/traces.rt:44:1
 returns-4 : tie.Need-returns-4
-returns-4 c = ?
+returns-4 c = λ few whole. events-put _ _ _ _ _ _ (omega arith) few (c .before .before .events-line .ensures) (search needs)
 
 pub put-events-spec : {M : Type 1} → statement M
 put-events-spec =

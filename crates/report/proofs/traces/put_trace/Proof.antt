@@ -1,3 +1,5 @@
+use native.Mathlib.Omega.{arith}
+use Rattle.report.proofs.Traced.{one-line, two-lines}
 use borrow.Author.Needs.{needs}
 use Rattle.report.proofs.traces.put_trace.Statement.{statement}
 use Rattle.report.proofs.traces.put_trace.Tie as tie
@@ -34,7 +36,7 @@ same-length c = search needs
 
 -- src/traces.rt:69:9
 returns : tie.Need-returns
-returns c = ?
+returns c = λ good. one-line _ _ _ _ (c .before .before .before .before .before .before .explain .result) (c .before .before .before .before .before .before .before .before .empty .ensures) (c .before .before .before .before .before .before .explain .ensures .0) (c .before .before .before .before .before .before .explain .ensures .1) (search needs) good _ _ _ _ (c .match .keys2) (c .before .before .before .put-answer .ensures)
 
 -- src/traces.rt:71:16
 slice-aggregate-put-events : tie.Need-slice-aggregate-put-events
@@ -50,7 +52,7 @@ same-length-2 c = search needs
 
 -- src/traces.rt:62:1
 returns-2 : tie.Need-returns-2
-returns-2 c = ?
+returns-2 c = λ good. two-lines _ _ _ _ _ (c .before .before .before .before .before .before .before .before .before .before .before .before .before .before .before .empty .ensures) (c .before .before .before .before .before .before .before .before .before .before .before .before .before .explain .ensures .0) (c .before .before .before .before .before .before .before .before .before .before .before .before .before .explain .ensures .1) (search needs) good _ _ _ _ _ _ _ _ (c .before .before .before .before .before .before .said .given .1) (c .before .before .before .before .before .before .before .before .before .before .put-answer .ensures) (c .before .before .put-events .ensures)
 
 pub put-trace-spec : {M : Type 1} → statement M
 put-trace-spec =
