@@ -23,10 +23,10 @@ unfoldable pub digits : ℕ → ℕ → List ℕ
 digits zero n = digit n ∷ []
 digits (suc more) n = cond (ltb n 10) (digit n ∷ []) (digits more (n / 10) ++ (digit n ∷ []))
 
--- all of them: a number has no more digits than it counts, but for 0, which has one
+-- a number of 32 bits has at most 10
 unfoldable pub decimal : ℕ → List ℕ
 unfolding digits
-decimal n = digits n n
+decimal n = digits 9 n
 
 -- ---- a refusal, by its number and its place
 

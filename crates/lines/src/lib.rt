@@ -8,8 +8,6 @@ use tracefile::Refusal;
 use verdict::Verdict;
 ghost use mathlib.Core.Path.{_≡_};
 ghost use mathlib.Core.List.{_++_};
-ghost use Prim.Native.Nat.{_≤_};
-ghost use lib.ListN.{length};
 ghost use Rattle.tracefile.specs.Refusals.{refusal as refusal-of};
 ghost use Rattle.verdict.specs.Judged.{told};
 ghost use Rattle.lines.specs.Text.{decimal, line-end, refusal-text, refused-text, said-text, answer-text, events-text};
@@ -29,7 +27,6 @@ fn put_last(words: &[u8], number: u32, out: &mut [u8], at: usize) -> usize
 // Puts a refusal by its number and its place.
 fn put_refusal(number: u32, place: u32, out: &mut [u8], at: usize) -> usize
     ensures { λ r. ⌜ Put (refusal-text number place) (now (out .entry)) at r (now (out .exit)) ⌝ }
-    ensures { λ r. ⌜ length (refusal-text number place) ≤ 60 ⌝ }
 {
     let next = put_number(b"refused ", number, out, at);
     put_last(b" at ", place, out, next)
@@ -38,7 +35,6 @@ fn put_refusal(number: u32, place: u32, out: &mut [u8], at: usize) -> usize
 // Puts what is said of a trace.
 fn put_said(verdict: Verdict, out: &mut [u8], at: usize) -> usize
     ensures { λ r. ⌜ Put (said-text (told verdict)) (now (out .entry)) at r (now (out .exit)) ⌝ }
-    ensures { λ r. ⌜ length (said-text (told verdict)) ≤ 60 ⌝ }
 {
     match verdict {
         Verdict::Explained { points, events } => {

@@ -1,3 +1,5 @@
 pub mod Parts
 pub mod Traced
 pub mod Listed
+pub mod Answers
+pub mod Worked

@@ -1,4 +1,3 @@
-use native.Mathlib.Omega.{arith}
 use Rattle.lines.proofs.Putting.{line-kept}
 use Rattle.lines.proofs.Said.{answer-put}
 use borrow.Author.Needs.{needs}
@@ -40,7 +39,7 @@ same-length c = search needs
 
 -- src/lib.rt:57:1
 returns-2 : tie.Need-returns-2
-returns-2 c = answer-put _ _ _ _ _ _ _ _ _ (omega arith) (c .before .before .before .before .before .before .before .before .before .before .before .before .before .before .if1 .left) (c .before .before .before .before .before .before .before .before .before .before .before .put-number .ensures) (c .before .before .before .before .before .before .put .ensures) (c .before .before .put-said .ensures)
+returns-2 c = answer-put _ _ _ _ _ _ _ _ _ (c .before .before .before .before .before .before .before .before .before .before .before .before .before .before .if1 .left) (c .before .before .before .before .before .before .before .before .before .before .before .put-number .ensures) (c .before .before .before .before .before .before .put .ensures) (c .before .before .put-said .ensures)
 
 pub answer-line-spec : {M : Type 1} → statement M
 answer-line-spec =

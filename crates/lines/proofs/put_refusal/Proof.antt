@@ -1,4 +1,3 @@
-use native.Mathlib.Omega.{arith}
 use Rattle.lines.proofs.Said.{refusal-put}
 use borrow.Author.Needs.{needs}
 use Rattle.lines.proofs.put_refusal.Statement.{statement}
@@ -30,7 +29,7 @@ same-length c = search needs
 
 -- src/lib.rt:28:1
 returns : tie.Need-returns
-returns c = refusal-put _ _ _ _ _ _ _ _ (omega arith) (omega arith) (c .before .before .before .before .before .before .before .put-number .ensures) (c .before .before .put-last .ensures)
+returns c = refusal-put _ _ _ _ _ _ _ _ (c .before .before .before .before .before .before .before .put-number .ensures) (c .before .before .put-last .ensures)
 
 pub put-refusal-spec : {M : Type 1} → statement M
 put-refusal-spec =

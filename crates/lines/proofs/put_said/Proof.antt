@@ -1,4 +1,3 @@
-use native.Mathlib.Omega.{arith}
 use Rattle.lines.proofs.Said.{explained-put, unexplained-put, undecided-put, refused-put, no-room-put, too-deep-put}
 use borrow.Author.Needs.{needs}
 use Rattle.lines.proofs.put_said.Statement.{statement}
@@ -88,7 +87,7 @@ same-length c = search needs
 
 -- src/lib.rt:36:1
 returns : tie.Need-returns
-returns c = explained-put _ _ _ _ _ _ _ _ _ (c .before .before .before .before .before .before .before .before .before .before .before .verdict .given .1) (omega arith) (omega arith) (c .before .before .before .before .before .before .before .put-number .ensures) (c .before .before .put-last .ensures)
+returns c = explained-put _ _ _ _ _ _ _ _ _ (c .before .before .before .before .before .before .before .before .before .before .before .verdict .given .1) (c .before .before .before .before .before .before .before .put-number .ensures) (c .before .before .put-last .ensures)
 
 -- src/lib.rt:36:1
 same-length-2 : tie.Need-same-length-2
@@ -96,7 +95,7 @@ same-length-2 c = search needs
 
 -- src/lib.rt:36:1
 returns-2 : tie.Need-returns-2
-returns-2 c = unexplained-put _ _ _ _ _ _ (c .before .before .before .before .before .before .verdict2 .given .1) (omega arith) (c .before .before .put-last2 .ensures)
+returns-2 c = unexplained-put _ _ _ _ _ _ (c .before .before .before .before .before .before .verdict2 .given .1) (c .before .before .put-last2 .ensures)
 
 -- src/lib.rt:36:1
 same-length-3 : tie.Need-same-length-3
@@ -104,7 +103,7 @@ same-length-3 c = search needs
 
 -- src/lib.rt:36:1
 returns-3 : tie.Need-returns-3
-returns-3 c = undecided-put _ _ _ _ _ _ (c .before .before .before .before .before .before .verdict3 .given .1) (omega arith) (c .before .before .put-last3 .ensures)
+returns-3 c = undecided-put _ _ _ _ _ _ (c .before .before .before .before .before .before .verdict3 .given .1) (c .before .before .put-last3 .ensures)
 
 -- src/lib.rt:36:1
 same-length-4 : tie.Need-same-length-4

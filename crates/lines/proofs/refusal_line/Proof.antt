@@ -1,4 +1,3 @@
-use native.Mathlib.Omega.{arith}
 use Rattle.lines.proofs.Putting.{line-kept}
 use Rattle.lines.proofs.Said.{file-refused-put}
 use borrow.Author.Needs.{needs}
