@@ -1,11 +1,13 @@
 -- Texts put one after the other make one text.
 -- Assumes nothing.
+use mathlib.Core.Bool.{Bool, true, false, cond}
 use mathlib.Core.List.{List, [], _∷_, _++_, append-assoc, append-nil}
 use mathlib.Core.Path.{_≡_, refl, sym, ap, ap₂, _∙_, subst}
 use Prim.Native.Nat.{ℕ, suc, _+_, _-_, _≤_, _<_}
 use native.Mathlib.Nat.{zero-add}
 use native.Mathlib.Numerals.{add-one}
 use native.Mathlib.Omega.{arith}
+use lib.Dec.{ltb}
 use borrow.Author.Tests.{lt-ltb, le-ltb}
 use lib.ListN.{length, take, drop, set, length-append, length-take, length-drop, drop-of-length-le}
 use lib.Seq.{length-take-le, take-at, drop-at, take-length, take-all, drop-drop, set-split, drop-append-add}
@@ -126,3 +128,12 @@ line-put room text out count last enough short p =
 pub line-kept : (room : ℕ) (text out : List ℕ) → length out < room → Line room text out 0 out
 unfolding written after
 line-kept room text out h = rw (lt-ltb (length out) room h) (refl, refl)
+
+-- what is written lies within the bytes
+pub within : (room : ℕ) (text out : List ℕ) (count : ℕ) (last : List ℕ) → Line room text out count last → count ≤ length last
+unfolding written after
+within room text out count last p = go (ltb (length out) room) (p .0) (p .1)
+  where
+    go : (t : Bool) → count ≡ cond t 0 (length text) → last ≡ cond t out (text ++ drop (length text) out) → count ≤ length last
+    go true e g = omega arith
+    go false e g = let l = ap length g ∙ length-append text (drop (length text) out) in omega arith

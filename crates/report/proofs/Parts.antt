@@ -1,17 +1,15 @@
 -- A line that is written into a part of the bytes is put there; and texts put with room for the longest add up.
 -- Assumes nothing.
-use mathlib.Core.Bool.{Bool, true, false, cond}
 use mathlib.Core.List.{List, [], _++_, append-assoc, append-nil}
 use mathlib.Core.Path.{_≡_, refl, sym, ap, _∙_, subst}
 use Prim.Native.Nat.{ℕ, _+_, _-_, _*_, _≤_, _<_}
 use native.Mathlib.Omega.{arith}
-use lib.Dec.{ltb}
 use lib.ListN.{length, take, drop, length-append, length-take, length-drop, take-append-drop}
 use lib.Seq.{length-take-le, drop-append-le, drop-drop}
 use borrow.Author.Tests.{le-ltb}
 use Rattle.lines.specs.Text.{events-text}
 use Rattle.lines.specs.Put.{Stands, events-room, written, after}
-use Rattle.lines.proofs.Putting.{Line, as-long, stood, standing, then-put}
+use Rattle.lines.proofs.Putting.{Line, as-long, stood, standing, then-put, within}
 use Rattle.report.specs.Rooms.{room-size, explanation-room, PutIn}
 
 -- where there is not the room, nothing is asked
@@ -29,14 +27,7 @@ in-as room out at next last e p = subst (λ (t : List ℕ). PutIn room t out at 
 -- it is no longer than the part
 pub count-fits : (need : ℕ) (text part copied : List ℕ) (count : ℕ) → Line need text part count copied → length copied ≡ length part
     → count ≤ length part
-unfolding written after
-count-fits need text part copied count p kept = go (ltb (length part) need) (p .0) (p .1)
-  where
-    go : (t : Bool) → count ≡ cond t 0 (length text) → copied ≡ cond t part (text ++ drop (length text) part) → count ≤ length part
-    go true e g = omega arith
-    go false e g =
-        let l = ap length g ∙ length-append text (drop (length text) part) in
-        omega (arith, length-drop (length text) part)
+count-fits need text part copied count p kept = omega (arith, within need text part count copied p)
 
 pub part-put : (need room : ℕ) (text out : List ℕ) (at count : ℕ) (copied : List ℕ) → at + room ≤ length out → need ≤ room
     → Line need text (take (at + room - at) (drop at out)) count copied
