@@ -3,7 +3,7 @@
 use mathlib.Core.Bool.{Bool, true, false, cond}
 use mathlib.Core.List.{List, [], _∷_, _++_}
 use mathlib.Core.Path.{_≡_, refl, sym, ap, _∙_}
-use Prim.Native.Nat.{ℕ, zero, suc, _+_, _-_, _*_, _/_, _≤_, _<_}
+use Prim.Native.Nat.{ℕ, suc, _+_, _-_, _≤_, _<_}
 use native.Mathlib.Numerals.{add-one, add-two}
 use native.Mathlib.Omega.{arith}
 use lib.Dec.{eqb}
@@ -16,14 +16,25 @@ use Rattle.lines.proofs.Putting.{then-put, put-as}
 
 -- ---- the bytes of an event, and of all
 
+one-letter : (kind : ℕ) → length (event-letter kind) ≡ 1
+unfolding event-letter
+one-letter kind = go (eqb kind 1) (eqb kind 2) (eqb kind 5) (eqb kind 6)
+  where
+    go : (a b c d : Bool) → length (cond a (words "R") (cond b (words "W") (cond c (words "U") (cond d (words "D") (words "?"))))) ≡ 1
+    go true b c d = refl
+    go false true c d = refl
+    go false false true d = refl
+    go false false false true = refl
+    go false false false false = refl
+
 event-few : (kind tablet : ℕ) → length (event-text kind tablet) ≤ 2
 unfolding event-text
 event-few kind tablet = go (eqb kind 3) (eqb kind 4)
   where
-    go : (a b : Bool) → length (cond a (words "S") (cond b (words "SF") (event-letter kind ∷ digit tablet ∷ []))) ≤ 2
+    go : (a b : Bool) → length (cond a (words "S") (cond b (words "SF") (event-letter kind ++ (digit tablet ∷ [])))) ≤ 2
     go true b = omega arith
     go false true = omega arith
-    go false false = omega arith
+    go false false = rw length-append (omega (arith, one-letter kind))
 
 later-few : (events : List ℕ) → length (later-events events) ≤ events-room events
 unfolding later-events

@@ -1,9 +1,8 @@
 -- Document 01, 'Evenings worked by hand', what the program prints: the lines that people read, in bytes.
-use Prim.Native.Nat.{ℕ, zero, suc, _+_, _*_, _/_, _%_}
+use Prim.Native.Nat.{ℕ, zero, suc, _+_, _/_, _%_}
 use mathlib.Core.Bool.{cond}
 use mathlib.Core.List.{List, [], _∷_, _++_}
 use lib.Dec.{ltb, eqb}
-use lib.ListN.{length}
 use Rattle.tracefile.specs.Refusals as R
 use Rattle.verdict.specs.Judged.{Said, explained-by, unexplained-in, undecided-at, refused}
 use Rattle.lines.specs.Words.{words}
@@ -57,14 +56,18 @@ answer-text trace said = words "trace " ++ (decimal trace ++ (words " " ++ said-
 -- ---- events
 
 -- the letter of an event at a tablet: READ, WRITE, UP, DOWN; a kind that is not in the table gets a question mark
-unfoldable pub event-letter : ℕ → ℕ
-event-letter kind = cond (eqb kind 1) 82 (cond (eqb kind 2) 87 (cond (eqb kind 5) 85 (cond (eqb kind 6) 68 63)))
+unfoldable pub event-letter : ℕ → List ℕ
+event-letter kind =
+    cond (eqb kind 1) (words "R")
+    (cond (eqb kind 2) (words "W")
+    (cond (eqb kind 5) (words "U")
+    (cond (eqb kind 6) (words "D") (words "?"))))
 
--- an event of two bytes, kind and tablet: S, SF, or its letter with the tablet's digit (of a tablet above 9, the last one)
+-- an event of two bytes, kind and tablet: S, SF, or its letter with the tablet's digit; of a tablet above 9, the last one
 unfoldable pub event-text : ℕ → ℕ → List ℕ
 unfolding event-letter
 event-text kind tablet =
-    cond (eqb kind 3) (words "S") (cond (eqb kind 4) (words "SF") (event-letter kind ∷ digit tablet ∷ []))
+    cond (eqb kind 3) (words "S") (cond (eqb kind 4) (words "SF") (event-letter kind ++ (digit tablet ∷ [])))
 
 -- the events that follow another one, each after a space; then the line ends. A last byte without its second is no event.
 unfoldable pub later-events : List ℕ → List ℕ

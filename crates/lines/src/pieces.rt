@@ -54,7 +54,7 @@ pub fn put_number(words: &[u8], number: u32, out: &mut [u8], at: usize) -> usize
 
 // The letter for the events of a tablet: R, W, U, D, and a question mark for a kind that has none.
 fn letter(kind: u8) -> u8
-    ensures { λ r. ⌜ r ≡ event-letter kind ⌝ }
+    ensures { λ r. ⌜ r ∷ [] ≡ event-letter kind ⌝ }
 {
     if kind == 1 {
         return b'R';

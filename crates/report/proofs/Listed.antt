@@ -1,12 +1,11 @@
 -- All traces of a good file, one after the other; and what is then printed.
 -- Assumes nothing.
 use mathlib.Core.Bool.{cond}
-use mathlib.Core.List.{List, [], _++_}
+use mathlib.Core.List.{List, _++_}
 use mathlib.Core.Path.{_≡_, refl, sym, ap, _∙_, subst}
-use Prim.Native.Nat.{ℕ, zero, suc, _+_, _-_, _*_, _≤_, _<_}
+use Prim.Native.Nat.{ℕ, suc, _+_, _-_, _*_, _≤_, _<_}
 use native.Mathlib.Omega.{arith}
 use lib.ListN.{length, take, drop, take-append-drop}
-use lib.Dec.{ltb}
 use borrow.Author.Tests.{le-ltb}
 use Rattle.tracefile.specs.Refusals as R
 use Rattle.tracefile.specs.Refusals.{and-then}
@@ -16,7 +15,7 @@ use Rattle.tracefile.specs.declared.Refusal.the-variants.{Length, Edition, Tabl
 use Rattle.tracefile.specs.declared.Checked.{Checked}
 use Rattle.tracefile.specs.declared.Checked.the-variants.{Good, Refused}
 use Rattle.tracefile.proofs.Good.{good-file}
-use Rattle.lines.specs.Text.{refusal-text, refused-text}
+use Rattle.lines.specs.Text.{refused-text}
 use Rattle.lines.specs.Put.{line-room, written, after}
 use Rattle.lines.proofs.Putting.{Line, stood, line-put}
 use Rattle.report.specs.Printed.{trace-text, traces-text, file-text, printed}

@@ -1,14 +1,14 @@
 -- A line that is written into a part of the bytes is put there; and texts put with room for the longest add up.
 -- Assumes nothing.
-use mathlib.Core.List.{List, [], _++_, append-assoc, append-nil}
-use mathlib.Core.Path.{_≡_, refl, sym, ap, _∙_, subst}
+use mathlib.Core.List.{List, _++_, append-assoc}
+use mathlib.Core.Path.{_≡_, sym, ap, _∙_, subst}
 use Prim.Native.Nat.{ℕ, _+_, _-_, _*_, _≤_, _<_}
 use native.Mathlib.Omega.{arith}
 use lib.ListN.{length, take, drop, length-append, length-take, length-drop, take-append-drop}
 use lib.Seq.{length-take-le, drop-append-le, drop-drop}
 use borrow.Author.Tests.{le-ltb}
 use Rattle.lines.specs.Text.{events-text}
-use Rattle.lines.specs.Put.{Stands, events-room, written, after}
+use Rattle.lines.specs.Put.{events-room, written, after}
 use Rattle.lines.proofs.Putting.{Line, as-long, stood, standing, then-put, within}
 use Rattle.report.specs.Rooms.{room-size, explanation-room, PutIn}
 

@@ -10,7 +10,7 @@ ghost use Rattle.verdict.specs.Judged.{told};
 ghost use Rattle.lines.specs.Text.{answer-text, events-text};
 ghost use Rattle.lines.specs.Put.{line-room};
 ghost use Rattle.report.specs.Printed.{trace-text, traces-text};
-ghost use Rattle.report.specs.Rooms.{room-size, explanation-room, trace-room, report-room, PutIn};
+ghost use Rattle.report.specs.Rooms.{room-size, explanation-room, trace-room, PutIn};
 
 // The budget of points.
 const BUDGET: u32 = 1000000;

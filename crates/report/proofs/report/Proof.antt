@@ -1,60 +1,46 @@
-use native.Mathlib.Omega.{arith}
+-- `report::report` meets its contract: nothing in too little room, the line of a refused file, or the lines of all traces.
+-- Assumes nothing.
 use mathlib.Core.Path.{refl}
+use native.Mathlib.Omega.{arith}
+use borrow.Author.Needs.{needs}
 use Rattle.lines.proofs.Putting.{line-kept}
 use Rattle.report.proofs.Listed.{refused-printed, is-good, fourth-byte, traces-printed}
-use borrow.Author.Needs.{needs}
 use Rattle.report.proofs.report.Statement.{statement}
 use Rattle.report.proofs.report.Tie as tie
-use Rattle.report.proofs.report.Reads as reads
-use Rattle.report.proofs.report.Lts as lts
-use Rattle.lines.proofs.refusal_line.Reads as refusal-line-reads
-use Rattle.report.proofs.traces.put_traces.Reads as put-traces-reads
-use Rattle.tracefile.proofs.check_file.Reads as check-file-reads
 
--- src/lib.rt:20:9
 returns : tie.Need-returns
 returns c = line-kept _ _ _ (c .if1 .taken)
 
--- src/lib.rt:22:11
 check-file-requires : tie.Need-check-file-requires
 check-file-requires c κs = search needs
 
--- src/lib.rt:23:26
 enum-known-refusal : tie.Need-enum-known-refusal
 enum-known-refusal c = search needs
 
--- src/lib.rt:23:38
 refusal-line-requires : tie.Need-refusal-line-requires
 refusal-line-requires c κs = search needs
 
--- src/lib.rt:23:38
 same-length : tie.Need-same-length
 same-length c = search needs
 
--- src/lib.rt:23:38
 returns-2 : tie.Need-returns-2
 returns-2 c = refused-printed _ _ _ _ _ _ (c .before .before .before .before .before .before .before .before .if1 .left) (c .before .before .before .before .before .before .before .check-file .ensures) (c .before .before .before .before .before .refusal .given .1) (c .before .before .refusal-line .ensures)
 
 enum-told : tie.Need-enum-told
 enum-told c = search needs
 
--- src/lib.rt:26:18
 shared-slice-read-traces : tie.Need-shared-slice-read-traces
 shared-slice-read-traces c = fourth-byte _ (is-good _ _ (c .before .before .before .check-file .ensures) (c .before .enum-told .given .1))
 
--- src/lib.rt:27:22
 cast-put-traces : tie.Need-cast-put-traces
 cast-put-traces c = omega (arith, c .shared-slice-known2 .given 3)
 
--- src/lib.rt:27:5
 put-traces-requires : tie.Need-put-traces-requires
 put-traces-requires c κs = search needs
 
--- src/lib.rt:15:1
 same-length-2 : tie.Need-same-length-2
 same-length-2 c = search needs
 
--- src/lib.rt:15:1
 returns-3 : tie.Need-returns-3
 returns-3 c = traces-printed _ _ _ _ _ (c .before .before .before .before .before .before .before .before .if1 .left) (is-good _ _ (c .before .before .before .before .before .before .before .check-file .ensures) (c .before .before .before .before .before .enum-told .given .1)) refl (c .before .before .put-traces .ensures)
 

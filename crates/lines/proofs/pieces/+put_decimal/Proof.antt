@@ -1,9 +1,11 @@
+-- `lines::pieces::put_decimal` meets its contract: the digits of the tenth part, and then the last one. The measure is the number.
+-- Assumes nothing.
+use Prim.Native.Nat.{ℕ, _<_}
 use native.Mathlib.Omega.{arith}
 use borrow.Author.Needs.{needs}
-use Rattle.lines.proofs.Decimal.{one-digit, more-put}
-use Prim.Native.Nat.{ℕ, _<_}
 use borrow.Fn.Kinds.{In}
 use borrow.Fn.PlainCycle.{Measures, is, falls, and}
+use Rattle.lines.proofs.Decimal.{one-digit, more-put}
 use Rattle.lines.proofs.pieces.put_decimal.Reads as put-decimal
 use Rattle.lines.proofs.pieces.put_decimal.Kinds as put-decimal-kinds
 use Rattle.lines.proofs.pieces.+put_decimal.Lts-put_decimal as put-decimal-lts
@@ -22,7 +24,6 @@ abbrev put-decimal-below : ℕ → In 1 put-decimal-kinds.ps
 put-decimal-below t =
     and 1 put-decimal-kinds.ps (falls 1 put-decimal-kinds.ps _<_ μ-put-decimal t) put-decimal.Pre
 
--- src/pieces.rt:38:22
 put-decimal-cast-digit : (t : ℕ) → put-decimal-lts.Need-cast-digit (
   put-byte-reads.Asked,
   put-byte-reads.Learnt,
@@ -31,7 +32,6 @@ put-decimal-cast-digit : (t : ℕ) → put-decimal-lts.Need-cast-digit (
 ) (put-decimal-at t) put-decimal.Post
 put-decimal-cast-digit t c = search needs
 
--- src/pieces.rt:38:17
 put-decimal-add-digit : (t : ℕ) → put-decimal-lts.Need-add-digit (
   put-byte-reads.Asked,
   put-byte-reads.Learnt,
@@ -40,7 +40,6 @@ put-decimal-add-digit : (t : ℕ) → put-decimal-lts.Need-add-digit (
 ) (put-decimal-at t) put-decimal.Post
 put-decimal-add-digit t c = search needs
 
--- src/pieces.rt:40:9
 put-decimal-put-byte-requires : (t : ℕ) → put-decimal-lts.Need-put-byte-requires (
   put-byte-reads.Asked,
   put-byte-reads.Learnt,
@@ -49,7 +48,6 @@ put-decimal-put-byte-requires : (t : ℕ) → put-decimal-lts.Need-put-byte-requ
 ) (put-decimal-at t) put-decimal.Post
 put-decimal-put-byte-requires t c κs = tt
 
--- src/pieces.rt:40:9
 put-decimal-same-length : (t : ℕ) → put-decimal-lts.Need-same-length (
   put-byte-reads.Asked,
   put-byte-reads.Learnt,
@@ -58,7 +56,6 @@ put-decimal-same-length : (t : ℕ) → put-decimal-lts.Need-same-length (
 ) (put-decimal-at t) put-decimal.Post
 put-decimal-same-length t c = search needs
 
--- src/pieces.rt:40:9
 put-decimal-returns : (t : ℕ) → put-decimal-lts.Need-returns (
   put-byte-reads.Asked,
   put-byte-reads.Learnt,
@@ -67,7 +64,6 @@ put-decimal-returns : (t : ℕ) → put-decimal-lts.Need-returns (
 ) (put-decimal-at t) put-decimal.Post
 put-decimal-returns t c = one-digit _ _ _ _ _ (c .before .before .before .before .if1 .taken) (c .before .before .put-byte .ensures)
 
--- src/pieces.rt:42:9
 put-decimal-put-decimal-requires : (t : ℕ) → put-decimal-lts.Need-put-decimal-requires (
   put-byte-reads.Asked,
   put-byte-reads.Learnt,
@@ -76,7 +72,6 @@ put-decimal-put-decimal-requires : (t : ℕ) → put-decimal-lts.Need-put-decima
 ) (put-decimal-at t) put-decimal.Post
 put-decimal-put-decimal-requires t c κs = (omega (arith, c .before .before .before .pre .0), tt)
 
--- src/pieces.rt:43:5
 put-decimal-put-byte-requires-2 : (t : ℕ) → put-decimal-lts.Need-put-byte-requires-2 (
   put-byte-reads.Asked,
   put-byte-reads.Learnt,
@@ -85,7 +80,6 @@ put-decimal-put-byte-requires-2 : (t : ℕ) → put-decimal-lts.Need-put-byte-re
 ) (put-decimal-at t) put-decimal.Post
 put-decimal-put-byte-requires-2 t c κs = tt
 
--- src/pieces.rt:35:1
 put-decimal-same-length-2 : (t : ℕ) → put-decimal-lts.Need-same-length-2 (
   put-byte-reads.Asked,
   put-byte-reads.Learnt,
@@ -94,7 +88,6 @@ put-decimal-same-length-2 : (t : ℕ) → put-decimal-lts.Need-same-length-2 (
 ) (put-decimal-at t) put-decimal.Post
 put-decimal-same-length-2 t c = search needs
 
--- src/pieces.rt:35:1
 put-decimal-returns-2 : (t : ℕ) → put-decimal-lts.Need-returns-2 (
   put-byte-reads.Asked,
   put-byte-reads.Learnt,

@@ -1,73 +1,56 @@
+-- `report::traces::put_events` meets its contract: the line is written into a part that is as long as it can be.
+-- Assumes nothing.
 use native.Mathlib.Omega.{arith}
-use Rattle.report.proofs.Parts.{left-out, count-fits, events-put}
 use borrow.Author.Needs.{needs}
+use Rattle.report.proofs.Parts.{left-out, count-fits, events-put}
 use Rattle.report.proofs.traces.put_events.Statement.{statement}
 use Rattle.report.proofs.traces.put_events.Tie as tie
-use Rattle.report.proofs.traces.put_events.Reads as reads
-use Rattle.report.proofs.traces.put_events.Lts as lts
-use Rattle.lines.proofs.events_line.Reads as events-line-reads
 
--- src/traces.rt:47:16
 mul-size : tie.Need-mul-size
 mul-size c = search needs
 
--- src/traces.rt:49:9
 returns : tie.Need-returns
 returns c = λ few whole. absurd (omega arith)
 
--- src/traces.rt:52:9
 returns-2 : tie.Need-returns-2
 returns-2 c = λ few whole. left-out _ _ _ _ _ _ (omega arith)
 
--- src/traces.rt:54:8
 sub-if3 : tie.Need-sub-if3
 sub-if3 c = search needs
 
--- src/traces.rt:55:9
 returns-3 : tie.Need-returns-3
 returns-3 c = λ few whole. left-out _ _ _ _ _ _ (omega arith)
 
--- src/traces.rt:57:15
 add-end : tie.Need-add-end
 add-end c = search needs
 
--- src/traces.rt:58:29
 sub-events-line : tie.Need-sub-events-line
 sub-events-line c = search needs
 
--- src/traces.rt:58:29
 part-events-line-start : tie.Need-part-events-line-start
 part-events-line-start c = search needs
 
--- src/traces.rt:58:29
 part-events-line-end : tie.Need-part-events-line-end
 part-events-line-end c = search needs
 
--- src/traces.rt:58:45
 sub-events-line-2 : tie.Need-sub-events-line-2
 sub-events-line-2 c = search needs
 
--- src/traces.rt:58:45
 part-events-line-start-2 : tie.Need-part-events-line-start-2
 part-events-line-start-2 c = search needs
 
--- src/traces.rt:58:45
 part-events-line-end-2 : tie.Need-part-events-line-end-2
 part-events-line-end-2 c = search needs
 
--- src/traces.rt:58:10
 events-line-requires : tie.Need-events-line-requires
 events-line-requires c κs = search needs
 
--- src/traces.rt:58:5
 add-result : tie.Need-add-result
 add-result c = omega (arith, count-fits _ _ _ _ _ (c .before .before .events-line .ensures) (search needs))
 
--- src/traces.rt:44:1
 same-length : tie.Need-same-length
 same-length c = search needs
 
--- src/traces.rt:44:1
 returns-4 : tie.Need-returns-4
 returns-4 c = λ few whole. events-put _ _ _ _ _ _ (omega arith) few (c .before .before .events-line .ensures) (search needs)
 
