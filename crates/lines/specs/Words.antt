@@ -1,4 +1,4 @@
--- Quoted words in bytes.
+-- Quoted words in bytes: each letter by its code, which is its byte for the plain letters, digits and signs used here.
 use Prim.Native.Nat.{ℕ}
 use Prim.Native.Char.{code}
 use Prim.Native.String.{String, [], _∷_}
