@@ -3,3 +3,4 @@ pub mod Traced
 pub mod Listed
 pub mod Answers
 pub mod Worked
+pub mod Never
