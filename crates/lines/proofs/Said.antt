@@ -18,7 +18,7 @@ use Rattle.lines.proofs.Decimal.{ten-digits}
 
 -- ---- the longest lines
 
-refusal-short : (number place : ℕ) → length (refusal-text number place) ≤ 33
+pub refusal-short : (number place : ℕ) → length (refusal-text number place) ≤ 33
 unfolding refusal-text
 refusal-short number place = simp length-append (omega (arith, ten-digits number, ten-digits place))
 
@@ -29,7 +29,7 @@ said-short (unexplained-in points) = simp length-append (omega (arith, ten-digit
 said-short (undecided-at points) = simp length-append (omega (arith, ten-digits points))
 said-short (refused number place) = omega (arith, refusal-short number place)
 
-answer-short : (trace : ℕ) (s : Said) → length (answer-text trace s) ≤ line-room
+pub answer-short : (trace : ℕ) (s : Said) → length (answer-text trace s) ≤ line-room
 unfolding answer-text
 answer-short trace s = simp length-append (omega (arith, ten-digits trace, said-short s))
 

@@ -14,7 +14,7 @@ ghost use Rattle.lines.specs.Text.{decimal, line-end, refusal-text, refu
 ghost use Rattle.lines.specs.Put.{line-room, events-room, written, after, Put};
 
 // The room for the longest line of an answer or a refusal.
-const LINE: usize = 80;
+pub const LINE: usize = 80;
 
 // Puts some words and a number, and ends the line.
 fn put_last(words: &[u8], number: u32, out: &mut [u8], at: usize) -> usize

@@ -4,3 +4,4 @@ pub mod Listed
 pub mod Answers
 pub mod Worked
 pub mod Never
+pub mod Fits

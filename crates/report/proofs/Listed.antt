@@ -23,7 +23,7 @@ use Rattle.report.specs.Rooms.{trace-room, report-room, PutIn}
 use Rattle.report.proofs.Parts.{then-in}
 
 -- a trace with a number from 1 to k is there
-is-there : (f : List ℕ) (t : ℕ) → check f ≡ R.accepted → 1 ≤ t → t ≤ bodies-in f → check-trace f t ≡ R.accepted
+pub is-there : (f : List ℕ) (t : ℕ) → check f ≡ R.accepted → 1 ≤ t → t ≤ bodies-in f → check-trace f t ≡ R.accepted
 unfolding check-trace
 is-there f t good low high =
     ap (λ (a : R.Answer). and-then a (cond (outside 1 (bodies-in f) t) (R.refused 8 0) R.accepted)) good

@@ -67,7 +67,7 @@ possible-unfailed n s (Observed Failed ∷ es) h = not-both h
 possible-unfailed n s (Up t ∷ es) h = possible-unfailed n (then s (Up t)) es (later (may n s (Up t)) _ h)
 possible-unfailed n s (Down t ∷ es) h = possible-unfailed n (then s (Down t)) es (later (may n s (Down t)) _ h)
 
-cut-found : (b k : ℕ) (es : List Event) (w : Walked Event) → cut b w ≡ explained k es → w ≡ found k es
+pub cut-found : (b k : ℕ) (es : List Event) (w : Walked Event) → cut b w ≡ explained k es → w ≡ found k es
 unfolding cut
 cut-found b k es (found j fs) h = go (leb j b) h
   where

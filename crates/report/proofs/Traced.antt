@@ -30,7 +30,7 @@ use Rattle.report.specs.Rooms.{room-size, explanation-room, trace-room, 
 use Rattle.report.proofs.Parts.{then-in, wider, in-as}
 
 -- an event has two bytes
-length-laid : (es : List Event) → length (laid es) ≡ 2 * length es
+pub length-laid : (es : List Event) → length (laid es) ≡ 2 * length es
 unfolding laid
 length-laid [] = refl
 length-laid (Observed (Read t x) ∷ es) = omega (arith, length-laid es)

@@ -22,10 +22,14 @@ explanation-text (unexplained points) = []
 explanation-text (undecided points) = []
 explanation-text too-deep = []
 
--- trace t: the line of what is said of it, and its events
+-- a trace of this outcome: the line of what is said of it, and its events
+abbrev pub outcome-text : ℕ → Outcome Event → List ℕ
+outcome-text t o = answer-text t (said o) ++ explanation-text o
+
+-- trace t of a file
 unfoldable pub trace-text : List ℕ → ℕ → List ℕ
 unfolding explanation-text
-trace-text f t = answer-text t (said (outcome (tablets-in f) (evening f t) budget)) ++ explanation-text (outcome (tablets-in f) (evening f t) budget)
+trace-text f t = outcome-text t (outcome (tablets-in f) (evening f t) budget)
 
 -- the traces from t on, of which left are left
 unfoldable pub traces-text : List ℕ → ℕ → ℕ → List ℕ

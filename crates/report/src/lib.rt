@@ -8,8 +8,8 @@ ghost use Rattle.lines.specs.Put.{written, after};
 ghost use Rattle.report.specs.Printed.{printed};
 ghost use Rattle.report.specs.Rooms.{report-room};
 
-// The room for the longest text: 16 traces, each with a line of 80 bytes and a line of 2,304 events.
-pub const ROOM: usize = 16 * (80 + 3 * 2304 + 1);
+// The room for the longest text: a file has at most 16 traces.
+pub const ROOM: usize = 16 * traces::TRACE;
 
 // Writes what is printed for a file. Gives the number of bytes written, and 0 where the room is too little.
 pub fn report(file: &[u8], out: &mut [u8]) -> usize

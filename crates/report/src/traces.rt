@@ -1,5 +1,6 @@
 // The text of each trace, put one after the other: from a place on, giving the place after it. Where there is not the room
 // for the longest text, nothing is put.
+use lines::LINE;
 use verdict::Verdict;
 ghost use mathlib.Core.Path.{_≡_};
 ghost use Prim.Native.Nat.{_*_, _≤_};
@@ -15,16 +16,20 @@ ghost use Rattle.report.specs.Rooms.{room-size, explanation-room, trace-
 // The budget of points.
 const BUDGET: u32 = 1000000;
 
-// The room for the longest line of an answer, and of events.
-const LINE: usize = 80;
+// The most events that an explanation can have: an evening has at most 256 observations on 8 tablets.
+const MOST: usize = 256 + 8 * 256;
 
-const EVENTS: usize = 3 * 2304 + 1;
+// The room for a line of as many events.
+const EVENTS: usize = 3 * MOST + 1;
+
+// The room for the lines of a trace.
+pub const TRACE: usize = LINE + EVENTS;
 
 // Room for the longest explanation.
-fn empty() -> [u8; 4608]
+fn empty() -> [u8; 2 * MOST]
     ensures { λ r. ⌜ room-size ≡ length r ⌝ }
 {
-    [0; 4608]
+    [0; 2 * MOST]
 }
 
 // Puts the line of what is said of a trace.
