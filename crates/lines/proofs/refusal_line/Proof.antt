@@ -1,0 +1,27 @@
+-- `lines::refusal_line` meets its contract: nothing in too little room, and otherwise the whole line.
+-- Assumes nothing.
+use borrow.Author.Needs.{needs}
+use Rattle.lines.proofs.Putting.{line-kept}
+use Rattle.lines.proofs.Said.{file-refused-put}
+use Rattle.lines.proofs.refusal_line.Statement.{statement}
+use Rattle.lines.proofs.refusal_line.Tie as tie
+
+returns : tie.Need-returns
+returns c = line-kept _ _ _ (c .if1 .taken)
+
+number-and-place-requires : tie.Need-number-and-place-requires
+number-and-place-requires c κs = search needs
+
+put-refusal-requires : tie.Need-put-refusal-requires
+put-refusal-requires c κs = search needs
+
+same-length : tie.Need-same-length
+same-length c = search needs
+
+returns-2 : tie.Need-returns-2
+returns-2 c = file-refused-put _ _ _ _ _ _ (c .before .before .before .before .before .if1 .left) (c .before .before .before .before .number-and-place .ensures) (c .before .before .put-refusal .ensures)
+
+pub refusal-line-spec : {M : Type 1} → statement M
+refusal-line-spec =
+    tie.close
+    (tie.spec returns number-and-place-requires put-refusal-requires same-length returns-2)
