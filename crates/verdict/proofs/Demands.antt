@@ -159,13 +159,13 @@ pub record Ready (f : List ℕ) (t : ℕ) (room : List ℕ) : Type 0 where
   pub good : check-trace f t ≡ R.accepted
   pub enough : 2 * depth (tablets-in f) (evening f t) ≤ length room
 
-as-walked : (f : List ℕ) (t b : ℕ) (room : List ℕ) → Ready f t room → judged f t b (length room) ≡ said (outcome (tablets-in f) (evening f t) b)
+pub as-walked : (f : List ℕ) (t b : ℕ) (room : List ℕ) → Ready f t room → judged f t b (length room) ≡ said (outcome (tablets-in f) (evening f t) b)
 unfolding judged unless-refused walked-in
 as-walked f t b room y =
     ap (λ c. unless-refused c (walked-in f t b (length room))) (y .good)
     ∙ ap (λ c. cond c (refused 9 0) (said (outcome (tablets-in f) (evening f t) b))) (le-ltb (length room) (2 * depth (tablets-in f) (evening f t)) (y .enough))
 
-room-as-walked : (f : List ℕ) (t b : ℕ) (room : List ℕ) → Ready f t room
+pub room-as-walked : (f : List ℕ) (t b : ℕ) (room : List ℕ) → Ready f t room
     → room-judged f t b room ≡ outcome-in (outcome (tablets-in f) (evening f t) b) room
 unfolding room-judged room-unless room-walked
 room-as-walked f t b room y =

@@ -1,0 +1,5 @@
+pub mod Putting
+pub mod Decimal
+pub mod Said
+pub mod Events
+pub mod Answers

@@ -1,0 +1,3 @@
+pub mod Parts
+pub mod Traced
+pub mod Listed
