@@ -65,6 +65,15 @@ pub ten-digits : (n : ℕ) → n < 2 ^ 32 → length (decimal n) ≤ 10
 unfolding more-than
 ten-digits n h = few-digits 9 n (omega arith)
 
+-- a byte has at most 3, and a value at most 2
+pub three-digits : (n : ℕ) → n < 2 ^ 8 → length (decimal n) ≤ 3
+unfolding more-than
+three-digits n h = few-digits 2 n (omega arith)
+
+pub two-digits : (n : ℕ) → n < 64 → length (decimal n) ≤ 2
+unfolding more-than
+two-digits n h = few-digits 1 n (omega arith)
+
 -- ---- digits that are put
 
 pub one-digit : (n : ℕ) (out : List ℕ) (at next : ℕ) (last : List ℕ) → n < 10

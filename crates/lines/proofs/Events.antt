@@ -78,8 +78,8 @@ one-more events out₀ out one two at₀ at m k i r h l p q =
       within = omega arith;
       kept = l ∙ r .kept;
       completes = λ next last rest.
-        r .completes next last
-        (rw (two-there events i (omega arith)) (then-put (words " ") _ out one at m next last p (then-put _ _ one two m k next last q rest)));
+          r .completes next last
+          (rw (two-there events i (omega arith)) (then-put (words " ") _ out one at m next last p (then-put _ _ one two m k next last q rest)));
     }
 
 pub all-put : (events out₀ out : List ℕ) (at₀ at i next : ℕ) (last : List ℕ) → Reached events out₀ at₀ out at i → length events - i ≤ 1

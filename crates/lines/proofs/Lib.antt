@@ -3,3 +3,4 @@ pub mod Decimal
 pub mod Said
 pub mod Events
 pub mod Answers
+pub mod Values

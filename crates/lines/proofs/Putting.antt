@@ -93,10 +93,10 @@ then-put first second out between at middle next last p q = λ fits.
     record {
       ends = t .ends ∙ omega (arith, s .ends);
       bytes =
-        t .bytes
-        ∙ ap₂ _++_ (before first out at middle between h s) (ap (λ (l : List ℕ). second ++ l) (behind first out at middle between h s (length second) ∙ ap (λ (n : ℕ). drop n out) e))
-        ∙ append-assoc (take at out) first (second ++ drop (at + length (first ++ second)) out)
-        ∙ ap (λ (l : List ℕ). take at out ++ l) (sym (append-assoc first second (drop (at + length (first ++ second)) out)));
+          t .bytes
+          ∙ ap₂ _++_ (before first out at middle between h s) (ap (λ (l : List ℕ). second ++ l) (behind first out at middle between h s (length second) ∙ ap (λ (n : ℕ). drop n out) e))
+          ∙ append-assoc (take at out) first (second ++ drop (at + length (first ++ second)) out)
+          ∙ ap (λ (l : List ℕ). take at out ++ l) (sym (append-assoc first second (drop (at + length (first ++ second)) out)));
     }
 
 -- the same text, written otherwise

@@ -1,6 +1,8 @@
 // The lines that people read, made in bytes that the caller lends. A line that might not fit is not begun.
+mod notation;
 mod pieces;
 
+pub use notation::record_line;
 use pieces::put;
 use pieces::put_event;
 use pieces::put_number;

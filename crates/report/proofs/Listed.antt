@@ -60,12 +60,12 @@ one-more f traces out₀ out between at middle done r h l p =
       within = omega arith;
       kept = l ∙ r .kept;
       completes = λ good all next last q.
-        let g : trace-room + (traces - (done + 1)) * trace-room ≡ suc (traces - (done + 1)) * trace-room = omega arith in
-        let here = p (is-there f (done + 1) good (omega arith) (omega arith)) in
-        let both = then-in trace-room ((traces - (done + 1)) * trace-room) _ _ out between at middle next last here q in
-        r .completes good all next last
-        (subst (λ (n : ℕ). PutIn (n * trace-room) (traces-text f n (done + 1)) out at next last) (sym e)
-        (subst (λ (room : ℕ). PutIn room (trace-text f (done + 1) ++ traces-text f (traces - (done + 1)) (done + 1 + 1)) out at next last) g both));
+          let g : trace-room + (traces - (done + 1)) * trace-room ≡ suc (traces - (done + 1)) * trace-room = omega arith in
+          let here = p (is-there f (done + 1) good (omega arith) (omega arith)) in
+          let both = then-in trace-room ((traces - (done + 1)) * trace-room) _ _ out between at middle next last here q in
+          r .completes good all next last
+          (subst (λ (n : ℕ). PutIn (n * trace-room) (traces-text f n (done + 1)) out at next last) (sym e)
+          (subst (λ (room : ℕ). PutIn room (trace-text f (done + 1) ++ traces-text f (traces - (done + 1)) (done + 1 + 1)) out at next last) g both));
     }
 
 pub all-put : (f : List ℕ) (traces : ℕ) (out₀ out : List ℕ) (at done : ℕ) → Reached f traces out₀ out at done → traces ≤ done

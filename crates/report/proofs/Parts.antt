@@ -49,15 +49,15 @@ part-put need room text out at count copied h n p kept =
       record {
         ends = ap (λ (n : ℕ). at + n) counted;
         bytes =
-          ap (λ (l : List ℕ). take at out ++ (l ++ drop (at + room - at) (drop at out))) bytes
-          ∙ ap (λ (l : List ℕ). take at out ++ l) (
+            ap (λ (l : List ℕ). take at out ++ (l ++ drop (at + room - at) (drop at out))) bytes
+            ∙ ap (λ (l : List ℕ). take at out ++ l) (
             append-assoc text (drop (length text) (take (at + room - at) (drop at out))) (drop (at + room - at) (drop at out))
             ∙ ap (λ (l : List ℕ). text ++ l) (
-              sym (drop-append-le (length text) (take (at + room - at) (drop at out)) (drop (at + room - at) (drop at out)) (omega arith))
-              ∙ ap (drop (length text)) (take-append-drop (at + room - at) (drop at out))
-              ∙ drop-drop (length text) at out
+            sym (drop-append-le (length text) (take (at + room - at) (drop at out)) (drop (at + room - at) (drop at out)) (omega arith))
+            ∙ ap (drop (length text)) (take-append-drop (at + room - at) (drop at out))
+            ∙ drop-drop (length text) at out
             )
-          );
+            );
       },
       short,
     )
@@ -74,7 +74,7 @@ then-in a b first second out between at middle next last p q = λ fits.
     let t = q (omega (arith, s .0 .ends, s .1)) in
     let l = length-append first second in (
       standing (first ++ second) out at next last (omega (arith, s .1, t .1))
-      (then-put first second out between at middle next last (stood first out at middle between (s .0)) (stood second between middle next last (t .0))),
+          (then-put first second out between at middle next last (stood first out at middle between (s .0)) (stood second between middle next last (t .0))),
       omega (arith, s .1, t .1),
     )
 

@@ -17,6 +17,7 @@ const BUDGET: u32 = 1000000;
 
 // The room for the longest line of an answer, and of events.
 const LINE: usize = 80;
+
 const EVENTS: usize = 3 * 2304 + 1;
 
 // Room for the longest explanation.
