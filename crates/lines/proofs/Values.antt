@@ -55,8 +55,8 @@ value-put set low out₀ at₀ out at value k two r h t l p =
       within = omega arith;
       kept = l ∙ r .kept;
       completes = λ next last rest. r .completes next last
-        (put-as out at next last (sym (looked-at set value h ∙ ap (λ z. cond z ((words "," ++ decimal (value + 1)) ++ later-values set (value + 1 + 1) (63 - (value + 1))) (later-values set (value + 1 + 1) (63 - (value + 1)))) t))
-        (then-put (words "," ++ decimal (value + 1)) _ out two at k next last p rest));
+          (put-as out at next last (sym (looked-at set value h ∙ ap (λ z. cond z ((words "," ++ decimal (value + 1)) ++ later-values set (value + 1 + 1) (63 - (value + 1))) (later-values set (value + 1 + 1) (63 - (value + 1)))) t))
+          (then-put (words "," ++ decimal (value + 1)) _ out two at k next last p rest));
     }
 
 pub value-absent : (set low : ℕ) (out₀ : List ℕ) (at₀ : ℕ) (out : List ℕ) (at value : ℕ) → Reached set low out₀ at₀ out at value → value < 63
@@ -66,7 +66,7 @@ value-absent set low out₀ at₀ out at value r h t =
       within = omega arith;
       kept = r .kept;
       completes = λ next last rest. r .completes next last
-        (put-as out at next last (sym (looked-at set value h ∙ ap (λ z. cond z ((words "," ++ decimal (value + 1)) ++ later-values set (value + 1 + 1) (63 - (value + 1))) (later-values set (value + 1 + 1) (63 - (value + 1)))) t)) rest);
+          (put-as out at next last (sym (looked-at set value h ∙ ap (λ z. cond z ((words "," ++ decimal (value + 1)) ++ later-values set (value + 1 + 1) (63 - (value + 1))) (later-values set (value + 1 + 1) (63 - (value + 1)))) t)) rest);
     }
 
 pub values-put : (set low : ℕ) (first : List ℕ) (begin : ℕ) (out₀ : List ℕ) (at₀ : ℕ) (out : List ℕ) (at value : ℕ) → Reached set low out₀ at₀ out at value → 63 ≤ value

@@ -3,15 +3,17 @@
 use Prim.Native.Nat.{ℕ, zero, suc, _+_, _*_, _/_, _≤_, _<_}
 use native.Mathlib.Nat.{add-zero}
 use native.Mathlib.Omega.{arith}
-use mathlib.Core.Bool.{cond}
+use mathlib.Core.Bool.{Bool, true, false, cond}
 use mathlib.Core.List.{List, [], _∷_, _++_, append-nil}
 use mathlib.Core.Path.{_≡_, refl, sym, ap, ap₂, _∙_}
 use denote.Ref.{RefT, now}
+use lib.Dec.{leb}
 use lib.ListN.{length, drop, length-drop}
 use lib.Seq.{drop-drop}
 use borrow.Author.Tests.{le-leb, lt-leb}
 use Rattle.model.specs.declared.Observation.{Observation}
 use Rattle.records.specs.Records.{record-at, next-record, observation-of, observed, observations}
+use Rattle.records.specs.declared.Record.{Record}
 use Rattle.records.specs.declared.Step.{Step}
 use Rattle.records.specs.declared.Step.the-variants.{Next, End}
 use Rattle.records.proofs.Parts.{record-drop}
@@ -125,3 +127,12 @@ stands-at readers body p (suc k) =
       step .0 ∙ before .0,
       step .1 ∙ ap₂ (λ (b : RefT (List ℕ)) (at : ℕ). position (next-record (now b) at)) (before .0) (before .1) ∙ sym (place-on (now body) k 0),
     )
+
+-- a record that is given is 12 bytes long
+pub moves-on : (body : List ℕ) (at after : ℕ) (r : Record) (s : Step) → s ≡ next-record body at → s ≡ Next r after → after ≡ at + 12
+unfolding next-record
+moves-on body at after r s p q = go (leb (at + 12) (length body)) (sym q ∙ p)
+  where
+    go : (t : Bool) → Next r after ≡ cond t (Next (record-at body at) (at + 12)) (End at) → after ≡ at + 12
+    go true e = cc
+    go false e = let z : _≡_ {A = ℕ} 0 1 = cc in absurd (omega arith)
