@@ -17,12 +17,12 @@ import os
 HERE = os.path.dirname(os.path.abspath(__file__))
 DATA = os.path.join(HERE, '..', 'crates', 'printed', 'data')
 GROUPS = ['worked', 'program']
-FILE, ANSWER, EVENTS, REFUSAL = 1, 2, 3, 4
+FILE, ANSWER, EVENTS, REFUSAL, RECORD, TRACE = 1, 2, 3, 4, 5, 6
 EXPLAINED, UNEXPLAINED, UNDECIDED, REFUSED = 0, 1, 2, 10
 READ, WRITE, STABILIZE, FAILED = 1, 2, 3, 4
 
-# The room for a whole text, for a line, and the largest number of 32 bits.
-TEXT_ROOM, LINE_ROOM, MOST = 16 * (80 + 3 * 2304 + 1), 80, 4294967295
+# The room for a whole text, for a line, for a line of a record, and the largest number of 32 bits.
+TEXT_ROOM, LINE_ROOM, RECORD_ROOM, MOST = 16 * (80 + 3 * 2304 + 1), 80, 256, 4294967295
 cases = []
 
 
@@ -54,6 +54,16 @@ def refuses(name, text, number, place=0, room=LINE_ROOM):
 def lists(name, text, events, room=None):
     """For these events, of two bytes each, this line is written."""
     case('worked', name, EVENTS, bytes(events), text, 3 * (len(events) // 2) + 1 if room is None else room)
+
+
+def notes(name, text, given, room=RECORD_ROOM):
+    """For a record this line is written."""
+    case('worked', name, RECORD, given, text, room)
+
+
+def opens(name, text, trace, room=LINE_ROOM):
+    """For a trace the listing opens with this line."""
+    case('worked', name, TRACE, b'', text, room, trace)
 
 
 def record(kind, tablet, new, seen, found=0):
@@ -170,6 +180,26 @@ lists('as many events as an evening can have', ' '.join(['U8'] * 2304) + '\n', [
 lists('events with more room', 'W1 U1 S\n', [2, 1, 5, 1, 3, 0], room=100)
 lists('events with a byte of room too little', '', [2, 1, 5, 1, 3, 0], room=9)
 lists('no events, and no room', '', [], room=0)
+
+# ---- the lines of a listing
+
+notes('a read', 'R2 1\n', R(2, 1))
+notes('a write', 'W1 2<1\n', W(1, 2, 1))
+notes('a write of the highest values', 'W8 63<62\n', W(8, 63, 62))
+notes('no conflicts', 'S(1,{})\n', S(1))
+notes('one conflict', 'S(0,{63})\n', S(0, 63))
+notes('two conflicts, rising', 'S(3,{1,2})\n', S(3, 2, 1))
+notes('conflicts with one digit and with two', 'S(12,{9,10,11})\n', S(12, 9, 10, 11))
+notes('all conflicts', 'S(0,{' + ','.join(str(value) for value in range(64)) + '})\n', S(0, *range(64)))
+notes('a STABILIZE that failed', 'SF\n', SF)
+notes('numbers that no good file has', 'W255 255<255\n', W(255, 255, 255))
+notes('too few bytes for a record', 'SF\n', R(2, 1)[:11])
+notes('a record with more room', 'R2 1\n', R(2, 1), room=1000)
+notes('a record with a byte of room too little', '', R(2, 1), room=RECORD_ROOM - 1)
+opens('trace 1', 'trace 1\n', 1)
+opens('trace 16', 'trace 16\n', 16)
+opens('the largest trace number', f'trace {MOST}\n', MOST)
+opens('a listing with a byte of room too little', '', 1, room=LINE_ROOM - 1)
 
 # ---- the copied cases
 

@@ -119,6 +119,16 @@ pub no-leading-zero : (n : ℕ) → n < 2 ^ 32 → first (decimal n) ≡ 48 → 
 unfolding decimal beyond
 no-leading-zero n h e = first-digit 9 n (omega arith) e
 
+-- a value has at most 2
+pub two-digits : (n : ℕ) → n < 64 → length (decimal n) ≤ 2
+two-digits n h = go (ltb n 10) refl
+  where
+    go : (t : Bool) → ltb n 10 ≡ t → length (decimal n) ≤ 2
+    go true e = rw (decimal-one n (ltb-true n 10 e)) (omega arith)
+    go false e =
+        let large = ltb-false n 10 e in
+        rw (decimal-more n large (omega arith), decimal-one (n / 10) (omega arith)) (omega arith)
+
 -- ---- digits that are put
 
 pub one-digit : (n : ℕ) (out : List ℕ) (at next : ℕ) (last : List ℕ) → n < 10

@@ -4,3 +4,4 @@ pub mod Said
 pub mod Events
 pub mod Answers
 pub mod Worked
+pub mod Values

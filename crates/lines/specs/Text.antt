@@ -53,6 +53,11 @@ unfoldable pub answer-text : ℕ → Said → List ℕ
 unfolding decimal said-text
 answer-text trace said = words "trace " ++ (decimal trace ++ (words " " ++ said-text said))
 
+-- the line that opens the listing of a trace
+unfoldable pub trace-text : ℕ → List ℕ
+unfolding decimal
+trace-text trace = words "trace " ++ (decimal trace ++ line-end)
+
 -- ---- events
 
 -- the letter of an event at a tablet: READ, WRITE, UP, DOWN; a kind that is not in the table gets a question mark

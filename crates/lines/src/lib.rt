@@ -1,6 +1,8 @@
 // The lines that people read, made in bytes that the caller lends. A line that might not fit is not begun.
+mod notation;
 mod pieces;
 
+pub use notation::record_line;
 use pieces::put;
 use pieces::put_event;
 use pieces::put_number;
@@ -10,7 +12,7 @@ ghost use mathlib.Core.Path.{_≡_};
 ghost use mathlib.Core.List.{_++_};
 ghost use Rattle.tracefile.specs.Refusals.{refusal as refusal-of};
 ghost use Rattle.verdict.specs.Judged.{told};
-ghost use Rattle.lines.specs.Text.{decimal, line-end, refusal-text, refused-text, said-text, answer-text, events-text};
+ghost use Rattle.lines.specs.Text.{decimal, line-end, refusal-text, refused-text, said-text, answer-text, trace-text, events-text};
 ghost use Rattle.lines.specs.Put.{line-room, events-room, written, after, Put};
 
 // The room for the longest line of an answer or a refusal.
@@ -64,6 +66,18 @@ pub fn answer_line(trace: u32, verdict: Verdict, out: &mut [u8]) -> usize
     let next = put_number(b"trace ", trace, out, 0);
     let last = put(b" ", out, next);
     put_said(verdict, out, last)
+}
+
+// Writes the line that opens the listing of a trace: its number. Gives the number of bytes written, and 0 where the room is
+// too little.
+pub fn trace_line(trace: u32, out: &mut [u8]) -> usize
+    ensures result { λ r. ⌜ r ≡ written line-room (trace-text trace) (now (out .entry)) ⌝ }
+    ensures out { λ r. ⌜ now (out .exit) ≡ after line-room (trace-text trace) (now (out .entry)) ⌝ }
+{
+    if out.len() < LINE {
+        return 0;
+    }
+    put_last(b"trace ", trace, out, 0)
 }
 
 // Writes the line for a refused file. Gives the number of bytes written, and 0 where the room is too little.

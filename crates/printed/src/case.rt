@@ -5,13 +5,14 @@
 // A part: the name of the case.
 pub const NAME: usize = 4;
 
-// A part: the bytes given, a file or the events of a room.
+// A part: the bytes given, a file, the events of a room or a record.
 pub const GIVEN: usize = 12;
 
 // A part: the text expected.
 pub const TEXT: usize = 20;
 
-// What is asked for: 1 the text for a file, 2 the line of an answer, 3 the line of events, 4 the line of a refused file.
+// What is asked for: 1 the text for a file, 2 the line of an answer, 3 the line of events, 4 the line of a refused file, 5 the
+// line of a record, 6 the line that opens a listing.
 pub const KIND: usize = 28;
 
 // The length of the bytes lent for the text.

@@ -54,6 +54,11 @@ fn write(packed: &[u8], out: &mut [u8]) -> usize {
         1 => report::report(case::held(packed, case::GIVEN), out),
         2 => lines::answer_line(case::number(packed, case::TRACE), verdict_in(packed), out),
         3 => lines::events_line(case::held(packed, case::GIVEN), out),
+        5 => lines::record_line(
+            records::read_record(case::held(packed, case::GIVEN), 0),
+            out,
+        ),
+        6 => lines::trace_line(case::number(packed, case::TRACE), out),
         _ => lines::refusal_line(refusal_in(packed), out),
     }
 }
