@@ -1,7 +1,7 @@
 -- The values of a set, put one after the other; the lines of records; and that they are short.
 -- Assumes nothing.
 use mathlib.Core.Bool.{Bool, true, false, cond}
-use mathlib.Core.List.{List, [], _∷_, _++_, append-assoc}
+use mathlib.Core.List.{List, [], _++_}
 use mathlib.Core.Path.{_≡_, refl, sym, ap, _∙_}
 use Prim.Native.Nat.{ℕ, zero, suc, _+_, _-_, _*_, _^_, _≤_, _<_}
 use native.Mathlib.Nat.{add-zero}
@@ -14,7 +14,7 @@ use Rattle.marks.proofs.Laws.{lowest-below}
 use Rattle.records.specs.declared.Record.{Record}
 use Rattle.lines.specs.Words.{words}
 use Rattle.lines.specs.Text.{decimal, line-end}
-use Rattle.lines.specs.Put.{Put, Stands}
+use Rattle.lines.specs.Put.{Put}
 use Rattle.lines.specs.Notation.{later-values, values-text, found-text, record-text, record-room}
 use Rattle.lines.proofs.Putting.{then-put, after-put, put-as}
 use Rattle.lines.proofs.Decimal.{two-digits, ten-digits}

@@ -5,6 +5,7 @@ use mathlib.Core.Path.{_≡_, refl}
 use Rattle.verdict.specs.Judged.{explained-by, unexplained-in, undecided-at, refused}
 use Rattle.lines.specs.Words.{words}
 use Rattle.lines.specs.Text.{answer-text, events-text, refusal-text}
+use Rattle.lines.specs.Notation.{record-text}
 
 pub explained-line : answer-text 1 (explained-by 4 3) ≡ words "trace 1 explained points 4 events 3\n"
 unfolding answer-text
@@ -43,3 +44,16 @@ no-events = refl
 pub other-events : events-text (1 ∷ 8 ∷ 4 ∷ 0 ∷ 9 ∷ 12 ∷ 7 ∷ []) ≡ words "R8 SF ?2\n"
 unfolding events-text
 other-events = refl
+
+-- records: a read, a write, and a STABILIZE that failed
+pub read-line : record-text (record { set = 0; kind = 1; tablet = 2; new = 0; seen = 1 }) ≡ words "R2 1\n"
+unfolding record-text
+read-line = refl
+
+pub write-line : record-text (record { set = 0; kind = 2; tablet = 1; new = 2; seen = 1 }) ≡ words "W1 2<1\n"
+unfolding record-text
+write-line = refl
+
+pub failed-line : record-text (record { set = 0; kind = 4; tablet = 0; new = 0; seen = 0 }) ≡ words "SF\n"
+unfolding record-text
+failed-line = refl
