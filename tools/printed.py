@@ -16,7 +16,7 @@ import os
 
 HERE = os.path.dirname(os.path.abspath(__file__))
 DATA = os.path.join(HERE, '..', 'crates', 'printed', 'data')
-GROUPS = ['worked', 'program']
+GROUPS = ['worked', 'copied']
 FILE, ANSWER, EVENTS, REFUSAL, RECORD, TRACE = 1, 2, 3, 4, 5, 6
 EXPLAINED, UNEXPLAINED, UNDECIDED, REFUSED = 0, 1, 2, 10
 READ, WRITE, STABILIZE, FAILED = 1, 2, 3, 4
@@ -206,7 +206,7 @@ opens('a listing with a byte of room too little', '', 1, room=LINE_ROOM - 1)
 with open(os.path.join(HERE, 'program.jsonl')) as lines:
     for number, line in enumerate(lines, 1):
         copied = json.loads(line)
-        prints(f'line {number}', bytes.fromhex(copied['file']), copied['stdout'], group='program')
+        prints(f'line {number}', bytes.fromhex(copied['file']), copied['stdout'], group='copied')
 
 for group in GROUPS:
     packed = [bytes_of for name, bytes_of in cases if name == group]

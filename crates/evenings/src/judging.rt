@@ -5,9 +5,6 @@ use verdict::Verdict;
 ghost use mathlib.Core.Path.{_≡_};
 ghost use lib.ListN.{length};
 
-// What every byte of the room is before the call.
-const PATTERN: u8 = 0xa5;
-
 // A status, 0 explained, 1 unexplained, 2 undecided, or 10 plus the number of a refusal; then points, events and place, 0
 // where there is none.
 struct Answer(u32, u32, u32, u32);
@@ -39,40 +36,24 @@ fn told(said: Verdict) -> Answer {
 // Whether the answer is the one that a case expects.
 fn says(packed: &[u8], said: Verdict) -> bool {
     let answer = told(said);
-    (answer.0 == case::number(packed, case::STATUS))
-        & (answer.1 == case::number(packed, case::POINTS))
-        & (answer.2 == case::number(packed, case::COUNT))
-        & (answer.3 == case::number(packed, case::PLACE))
-}
-
-// Whether a room starts with these events and has the pattern in every byte after them.
-fn stands(events: &[u8], room: &[u8]) -> bool {
-    if room.len() < events.len() {
-        return false;
-    }
-    let mut i = 0;
-    while i < room.len() {
-        let right = if i < events.len() { events[i] } else { PATTERN };
-        if room[i] != right {
-            return false;
-        }
-        i += 1;
-    }
-    true
+    (answer.0 == cases::number(packed, case::STATUS))
+        & (answer.1 == cases::number(packed, case::POINTS))
+        & (answer.2 == cases::number(packed, case::COUNT))
+        & (answer.3 == cases::number(packed, case::PLACE))
 }
 
 // Whether the call with this room does what a case expects.
 fn judges(packed: &[u8], room: &mut [u8]) -> bool {
-    let file = case::held(packed, case::FILE);
-    let trace = case::number(packed, case::TRACE);
-    let budget = case::number(packed, case::BUDGET);
+    let file = cases::held(packed, case::FILE);
+    let trace = cases::number(packed, case::TRACE);
+    let budget = cases::number(packed, case::BUDGET);
     let said = verdict::explain(file, trace, budget, room);
-    says(packed, said) & stands(case::held(packed, case::EVENTS), room)
+    says(packed, said) & cases::stands(cases::held(packed, case::EVENTS), room)
 }
 
 // The same with as much of this room as the case says.
 fn judges_within(packed: &[u8], room: &mut [u8]) -> bool {
-    let length = case::number(packed, case::ROOM) as usize;
+    let length = cases::number(packed, case::ROOM) as usize;
     if room.len() < length {
         return false;
     }
@@ -83,7 +64,7 @@ fn judges_within(packed: &[u8], room: &mut [u8]) -> bool {
 fn filled() -> [u8; 8192]
     ensures { λ r. ⌜ 8192 ≡ length r ⌝ }
 {
-    [PATTERN; 8192]
+    [cases::PATTERN; 8192]
 }
 
 // Whether the call does what a case expects.

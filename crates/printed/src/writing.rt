@@ -5,9 +5,6 @@ use verdict::Verdict;
 ghost use mathlib.Core.Path.{_≡_};
 ghost use lib.ListN.{length};
 
-// What every byte of the room is before the call.
-const PATTERN: u8 = 0xa5;
-
 // The refusal of a file that has a number in the table.
 fn refusal(number: u32, place: u32) -> Refusal {
     match number {
@@ -24,8 +21,8 @@ fn refusal(number: u32, place: u32) -> Refusal {
 
 // The refusal that a case is about.
 fn refusal_in(packed: &[u8]) -> Refusal {
-    let status = case::number(packed, case::STATUS);
-    let place = case::number(packed, case::PLACE);
+    let status = cases::number(packed, case::STATUS);
+    let place = cases::number(packed, case::PLACE);
     if status < 10 {
         return Refusal::Trace;
     }
@@ -34,11 +31,11 @@ fn refusal_in(packed: &[u8]) -> Refusal {
 
 // The answer that a case is about.
 fn verdict_in(packed: &[u8]) -> Verdict {
-    let points = case::number(packed, case::POINTS);
-    match case::number(packed, case::STATUS) {
+    let points = cases::number(packed, case::POINTS);
+    match cases::number(packed, case::STATUS) {
         0 => Verdict::Explained {
             points,
-            events: case::number(packed, case::EVENTS),
+            events: cases::number(packed, case::EVENTS),
         },
         1 => Verdict::Unexplained { points },
         2 => Verdict::Undecided { points },
@@ -50,45 +47,29 @@ fn verdict_in(packed: &[u8]) -> Verdict {
 
 // Writes what a case asks for, and gives the number of bytes written.
 fn write(packed: &[u8], out: &mut [u8]) -> usize {
-    match case::number(packed, case::KIND) {
-        1 => report::report(case::held(packed, case::GIVEN), out),
-        2 => lines::answer_line(case::number(packed, case::TRACE), verdict_in(packed), out),
-        3 => lines::events_line(case::held(packed, case::GIVEN), out),
+    match cases::number(packed, case::KIND) {
+        1 => report::report(cases::held(packed, case::GIVEN), out),
+        2 => lines::answer_line(cases::number(packed, case::TRACE), verdict_in(packed), out),
+        3 => lines::events_line(cases::held(packed, case::GIVEN), out),
         5 => lines::record_line(
-            records::read_record(case::held(packed, case::GIVEN), 0),
+            records::read_record(cases::held(packed, case::GIVEN), 0),
             out,
         ),
-        6 => lines::trace_line(case::number(packed, case::TRACE), out),
+        6 => lines::trace_line(cases::number(packed, case::TRACE), out),
         _ => lines::refusal_line(refusal_in(packed), out),
     }
 }
 
-// Whether bytes start with a text and have the pattern in every byte after it.
-fn stands(text: &[u8], out: &[u8]) -> bool {
-    if out.len() < text.len() {
-        return false;
-    }
-    let mut i = 0;
-    while i < out.len() {
-        let right = if i < text.len() { text[i] } else { PATTERN };
-        if out[i] != right {
-            return false;
-        }
-        i += 1;
-    }
-    true
-}
-
 // Whether what is written is the text that a case expects, and its length is what is told.
 fn writes(packed: &[u8], out: &mut [u8]) -> bool {
-    let text = case::held(packed, case::TEXT);
+    let text = cases::held(packed, case::TEXT);
     let written = write(packed, out);
-    (written == text.len()) & stands(text, out)
+    (written == text.len()) & cases::stands(text, out)
 }
 
 // The same with as much room as the case says.
 fn writes_within(packed: &[u8], out: &mut [u8]) -> bool {
-    let length = case::number(packed, case::ROOM) as usize;
+    let length = cases::number(packed, case::ROOM) as usize;
     if out.len() < length {
         return false;
     }
@@ -99,7 +80,7 @@ fn writes_within(packed: &[u8], out: &mut [u8]) -> bool {
 fn filled() -> [u8; 131072]
     ensures { λ r. ⌜ 131072 ≡ length r ⌝ }
 {
-    [PATTERN; 131072]
+    [cases::PATTERN; 131072]
 }
 
 // Whether what is written is what a case expects.

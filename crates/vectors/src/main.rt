@@ -15,7 +15,7 @@ struct Tally {
 
 // Whether the reader or the writer does what a case expects.
 fn agrees(packed: &[u8]) -> bool {
-    if case::number(packed, case::KIND) == case::READER {
+    if cases::number(packed, case::KIND) == case::READER {
         reading::agrees(packed)
     } else {
         writing::agrees(packed)
@@ -25,7 +25,7 @@ fn agrees(packed: &[u8]) -> bool {
 // Says the name of a case that differs.
 fn say_name(label: &[u8], packed: &[u8]) {
     io::write_all(STDOUT_FILENO, label);
-    io::write_all(STDOUT_FILENO, case::held(packed, case::NAME));
+    io::write_all(STDOUT_FILENO, cases::held(packed, case::NAME));
     io::write_all(STDOUT_FILENO, b" differs\n");
 }
 
@@ -35,15 +35,15 @@ fn run(all: &[u8], kind: u32, label: &[u8]) -> Tally {
     let mut differ = 0u64;
     let mut at = 0;
     while at < all.len() {
-        let length = case::number(all, at) as usize;
+        let length = cases::number(all, at) as usize;
         if length == 0 {
             break;
         }
         if all.len() - at < length {
             break;
         }
-        let packed = case::part(all, at, length);
-        if case::number(packed, case::KIND) == kind {
+        let packed = cases::part(all, at, length);
+        if cases::number(packed, case::KIND) == kind {
             cases += 1;
             if !agrees(packed) {
                 say_name(label, packed);

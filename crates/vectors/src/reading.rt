@@ -39,16 +39,16 @@ fn of_file(refusal: u32) -> u32 {
 
 // Whether the reader does what a case expects.
 pub fn agrees(packed: &[u8]) -> bool {
-    let file = case::held(packed, case::GIVEN);
-    let trace = case::number(packed, case::TRACE);
-    let refusal = case::number(packed, case::REFUSAL);
-    let place = case::number(packed, case::PLACE);
+    let file = cases::held(packed, case::GIVEN);
+    let trace = cases::number(packed, case::TRACE);
+    let refusal = cases::number(packed, case::REFUSAL);
+    let place = cases::number(packed, case::PLACE);
     if !says(tracefile::check_file(file), of_file(refusal), place) {
         return false;
     }
     if !says(tracefile::check_asked(file, trace), refusal, place) {
         return false;
     }
-    let body = case::held(packed, case::EXPECTED);
+    let body = cases::held(packed, case::EXPECTED);
     check::same(tracefile::asked_body(file, trace), body)
 }
