@@ -2,7 +2,7 @@
 -- Assumes nothing.
 use Prim.Native.Nat.{ℕ, _+_, _≤_, _<_}
 use native.Mathlib.Omega.{arith}
-use mathlib.Core.Bool.{Bool, true, false, cond}
+use mathlib.Core.Bool.{Bool, true, false}
 use mathlib.Core.List.{List, _++_}
 use mathlib.Core.Path.{_≡_, refl, sym, ap, _∙_, subst}
 use contract.Lifetimes.{Lfts}
@@ -18,7 +18,7 @@ use Rattle.model.specs.declared.Observation.{Observation}
 use Rattle.model.specs.declared.Event.{Event}
 use Rattle.tracefile.specs.File.{tablets-in}
 use Rattle.walk.specs.Steps.{laid-in}
-use Rattle.verdict.specs.Judged.{Said, explained-by, unexplained-in, undecided-at, refused, evening, judged, room-judged}
+use Rattle.verdict.specs.Judged.{Said, explained-by, unexplained-in, undecided-at, refused, evening, judged}
 use Rattle.verdict.specs.Judged as J
 use Rattle.verdict.proofs.Demands.{Listed, IsDecided, Ready}
 use Rattle.verdict.proofs.Demands as D

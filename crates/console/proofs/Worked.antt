@@ -2,7 +2,7 @@
 -- Assumes nothing.
 use Prim.Native.Nat.{ℕ}
 use mathlib.Core.List.{List, [], _∷_}
-use mathlib.Core.Path.{_≡_, refl}
+use mathlib.Core.Path.{refl}
 use Rattle.marks.specs.Sets.{has, add, remove, only, full}
 use Rattle.model.specs.Model.{outcome}
 use Rattle.records.specs.Bytes.{number}

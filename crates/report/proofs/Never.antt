@@ -16,7 +16,7 @@ use Rattle.model.specs.declared.Observation.the-variants.{Read, Write, Stabiliz
 use Rattle.model.proofs.Theorems.{found-end-explains}
 use Rattle.tracefile.specs.Refusals as R
 use Rattle.tracefile.specs.File.{tablets-in, check-trace}
-use Rattle.verdict.specs.Judged.{Said, refused, evening, said, judged}
+use Rattle.verdict.specs.Judged.{refused, evening, said, judged}
 use Rattle.verdict.proofs.Calls.{depth-small}
 use Rattle.verdict.proofs.Demands.{as-walked}
 use Rattle.report.specs.Printed.{budget}

@@ -13,7 +13,6 @@ use borrow.Author.Tests.{le-ltb, eq-eqb, eqb-true, ltb-false, not-false}
 use Rattle.records.specs.Bytes.{byte}
 use Rattle.records.specs.Records.{record-at, keeps-row}
 use Rattle.tracefile.specs.Refusals.{accepted}
-use Rattle.tracefile.specs.Refusals as R
 use Rattle.tracefile.specs.File.{tablets-in, values-in, bodies-in, outside, entry, offset-in, count-in, body-size, head, contents, records, check, check-trace}
 use Rattle.tracefile.proofs.Loops.{or-false}
 use Rattle.tracefile.proofs.Good.{inside, asked-part}

@@ -1,7 +1,6 @@
 -- `list::list_traces` is safe and ends: one trace fewer is left each time.
 -- Assumes nothing.
 use Prim.Native.Nat.{_-_, _≤_}
-use native.Mathlib.Omega.{arith}
 use borrow.Author.Needs.{needs}
 use Rattle.list.proofs.list_traces.Statement.{statement}
 use Rattle.list.proofs.list_traces.Tie as tie

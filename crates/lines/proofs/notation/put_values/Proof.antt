@@ -3,7 +3,6 @@
 -- Assumes nothing.
 use mathlib.Core.Path.{sym, _∙_}
 use Prim.Native.Nat.{_-_}
-use native.Mathlib.Omega.{arith}
 use Rattle.lines.proofs.Values.{Reached, no-values, at-lowest, value-put, value-absent, values-put}
 use borrow.Author.Needs.{needs}
 use Rattle.lines.proofs.notation.put_values.Statement.{statement}
