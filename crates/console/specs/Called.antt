@@ -29,7 +29,8 @@ area-of h = four-bytes (h .points) ++ (four-bytes (h .events) ++ four-bytes (h .
 
 -- an area not of 12 bytes is refusal 9 before all else
 unfoldable pub status : List ℕ → ℕ → ℕ → List ℕ → List ℕ → ℕ
-status file trace budget room area = cond (eqb (length area) 12) (handed-by (judged file trace budget (length room)) .status) 19
+status file trace budget room area =
+    cond (eqb (length area) 12) (handed-by (judged file trace budget (length room)) .status) (handed-by (refused 9 0) .status)
 
 -- and stays untouched, as does the room
 unfoldable pub area-after : List ℕ → ℕ → ℕ → List ℕ → List ℕ → List ℕ

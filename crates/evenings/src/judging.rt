@@ -10,16 +10,8 @@ ghost use lib.ListN.{length};
 struct Answer(u32, u32, u32, u32);
 
 fn told_refusal(refusal: Refusal) -> Answer {
-    match refusal {
-        Refusal::Length => Answer(11, 0, 0, 0),
-        Refusal::Edition => Answer(12, 0, 0, 0),
-        Refusal::Tablets => Answer(13, 0, 0, 1),
-        Refusal::Values => Answer(14, 0, 0, 2),
-        Refusal::Bodies => Answer(15, 0, 0, 3),
-        Refusal::Contents(place) => Answer(16, 0, 0, place),
-        Refusal::BadRecord(place) => Answer(17, 0, 0, place),
-        Refusal::Trace => Answer(18, 0, 0, 0),
-    }
+    let by = tracefile::number_and_place(refusal);
+    Answer(std::num::wrapping_add_u32(10, by.number), 0, 0, by.place)
 }
 
 fn told(said: Verdict) -> Answer {

@@ -4,13 +4,6 @@ use libc::STDOUT_FILENO;
 ghost use mathlib.Core.Path.{_≡_};
 ghost use lib.ListN.{length};
 
-// Room for the longest file, and a byte more, so that a longer one is seen to be too long.
-fn empty() -> [u8; 65536]
-    ensures { λ r. ⌜ 65536 ≡ length r ⌝ }
-{
-    [0; 65536]
-}
-
 // Room for the longest text.
 fn blank() -> [u8; report::ROOM]
     ensures { λ r. ⌜ 111888 ≡ length r ⌝ }
@@ -19,7 +12,8 @@ fn blank() -> [u8; report::ROOM]
 }
 
 fn main() {
-    let mut file = empty();
+    // 65,536 bytes are one more than the longest file has, so that a longer one is seen to be too long.
+    let mut file = io::large_buffer();
     let length = io::read_full(STDIN_FILENO, &mut file);
     let mut text = blank();
     let size = report::report(&file[..length], &mut text);

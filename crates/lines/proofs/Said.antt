@@ -11,7 +11,7 @@ use Rattle.verdict.specs.Judged.{Said, explained-by, unexplained-in, undecided-
 use Rattle.verdict.specs.declared.Verdict.{Verdict}
 use Rattle.verdict.specs.declared.Verdict.the-variants.{Explained, Unexplained, Undecided, Refused, NoRoom, TooDeep}
 use Rattle.lines.specs.Words.{words}
-use Rattle.lines.specs.Text.{decimal, line-end, refusal-text, refused-text, said-text, answer-text, trace-text}
+use Rattle.lines.specs.Text.{decimal, line-end, refusal-text, refused-text, said-text, answer-text, heading-text}
 use Rattle.lines.specs.Put.{Put, line-room}
 use Rattle.lines.proofs.Putting.{Line, then-put, after-put, line-put}
 use Rattle.lines.proofs.Decimal.{ten-digits}
@@ -92,8 +92,8 @@ answer-put trace s out one two m k next last enough p q r =
     (after-put (words "trace ") (decimal trace) (words " " ++ said-text s) out one 0 m next last p (then-put (words " ") (said-text s) one two m k next last q r))
 
 pub trace-put : (trace : ℕ) (out : List ℕ) (next : ℕ) (last : List ℕ) → line-room ≤ length out
-    → Put (words "trace " ++ (decimal trace ++ line-end)) out 0 next last → Line line-room (trace-text trace) out next last
-unfolding trace-text
+    → Put (words "trace " ++ (decimal trace ++ line-end)) out 0 next last → Line line-room (heading-text trace) out next last
+unfolding heading-text
 trace-put trace out next last enough p =
     line-put line-room (words "trace " ++ (decimal trace ++ line-end)) out next last enough (simp length-append (omega (arith, ten-digits trace))) p
 

@@ -54,9 +54,9 @@ unfolding decimal said-text
 answer-text trace said = words "trace " ++ (decimal trace ++ (words " " ++ said-text said))
 
 -- the line that opens the listing of a trace
-unfoldable pub trace-text : ℕ → List ℕ
+unfoldable pub heading-text : ℕ → List ℕ
 unfolding decimal
-trace-text trace = words "trace " ++ (decimal trace ++ line-end)
+heading-text trace = words "trace " ++ (decimal trace ++ line-end)
 
 -- ---- events
 

@@ -12,7 +12,7 @@ ghost use mathlib.Core.Path.{_≡_};
 ghost use mathlib.Core.List.{_++_};
 ghost use Rattle.tracefile.specs.Refusals.{refusal as refusal-of};
 ghost use Rattle.verdict.specs.Judged.{told};
-ghost use Rattle.lines.specs.Text.{decimal, line-end, refusal-text, refused-text, said-text, answer-text, trace-text, events-text};
+ghost use Rattle.lines.specs.Text.{decimal, line-end, refusal-text, refused-text, said-text, answer-text, heading-text, events-text};
 ghost use Rattle.lines.specs.Put.{line-room, events-room, written, after, Put};
 
 // The room for the longest line of an answer or a refusal.
@@ -71,8 +71,8 @@ pub fn answer_line(trace: u32, verdict: Verdict, out: &mut [u8]) -> usize
 // Writes the line that opens the listing of a trace: its number. Gives the number of bytes written, and 0 where the room is
 // too little.
 pub fn trace_line(trace: u32, out: &mut [u8]) -> usize
-    ensures result { λ r. ⌜ r ≡ written line-room (trace-text trace) (now (out .entry)) ⌝ }
-    ensures out { λ r. ⌜ now (out .exit) ≡ after line-room (trace-text trace) (now (out .entry)) ⌝ }
+    ensures result { λ r. ⌜ r ≡ written line-room (heading-text trace) (now (out .entry)) ⌝ }
+    ensures out { λ r. ⌜ now (out .exit) ≡ after line-room (heading-text trace) (now (out .entry)) ⌝ }
 {
     if out.len() < LINE {
         return 0;

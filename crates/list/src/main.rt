@@ -8,13 +8,6 @@ use tracefile::Refusal;
 ghost use mathlib.Core.Path.{_≡_};
 ghost use lib.ListN.{length};
 
-// Room for the longest file, and a byte more, so that a longer one is seen to be too long.
-fn empty() -> [u8; 65536]
-    ensures { λ r. ⌜ 65536 ≡ length r ⌝ }
-{
-    [0; 65536]
-}
-
 // Room for a line.
 fn blank() -> [u8; 256]
     ensures { λ r. ⌜ 256 ≡ length r ⌝ }
@@ -87,7 +80,8 @@ fn list(file: &[u8]) {
 }
 
 fn main() {
-    let mut file = empty();
+    // 65,536 bytes are one more than the longest file has, so that a longer one is seen to be too long.
+    let mut file = io::large_buffer();
     let length = io::read_full(STDIN_FILENO, &mut file);
     list(&file[..length]);
 }

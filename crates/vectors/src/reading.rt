@@ -1,28 +1,17 @@
 // The reader's cases: what it answers for a file and a trace number, and the body that it hands back.
 use crate::case;
 use tracefile::Checked;
-use tracefile::Refusal;
 
 // A refusal by its number in the specification, and its place; 0 and 0 where there is none.
 struct Answer(u32, u32);
 
-fn told_refusal(refusal: Refusal) -> Answer {
-    match refusal {
-        Refusal::Length => Answer(1, 0),
-        Refusal::Edition => Answer(2, 0),
-        Refusal::Tablets => Answer(3, 1),
-        Refusal::Values => Answer(4, 2),
-        Refusal::Bodies => Answer(5, 3),
-        Refusal::Contents(place) => Answer(6, place),
-        Refusal::BadRecord(place) => Answer(7, place),
-        Refusal::Trace => Answer(8, 0),
-    }
-}
-
 fn told(checked: Checked) -> Answer {
     match checked {
         Checked::Good => Answer(0, 0),
-        Checked::Refused(refusal) => told_refusal(refusal),
+        Checked::Refused(refusal) => {
+            let by = tracefile::number_and_place(refusal);
+            Answer(by.number, by.place)
+        }
     }
 }
 

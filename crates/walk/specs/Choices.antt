@@ -22,7 +22,7 @@ unfoldable pub slot : ℕ → Observation → List Observation → Choice Observ
 unfolding event-of
 slot i o obs = record { event = event-of i o; left = cond (eqb i 0) obs (o ∷ obs) }
 
--- the choices in a set, from number i on, of which k are left
+-- the choices in a set, from number i on, of which k are left; `kept` is the same for every service
 unfoldable pub picked : ℕ → Observation → List Observation → ℕ → ℕ → List (Choice Observation Event)
 unfolding slot
 picked set o obs i zero = []

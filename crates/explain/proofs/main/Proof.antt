@@ -7,8 +7,8 @@ use borrow.Author.Needs.{needs}
 use Rattle.explain.proofs.main.Statement.{statement}
 use Rattle.explain.proofs.main.Tie as tie
 
-empty-requires : tie.Need-empty-requires
-empty-requires c κs = search needs
+large-buffer-requires : tie.Need-large-buffer-requires
+large-buffer-requires c κs = search needs
 
 slice-aggregate-read-full : tie.Need-slice-aggregate-read-full
 slice-aggregate-read-full c = search needs
@@ -47,7 +47,7 @@ pub main-spec : {M : Type 1} → statement M
 main-spec =
     tie.close
     (tie.spec
-    empty-requires
+    large-buffer-requires
     slice-aggregate-read-full
     read-full-requires
     blank-requires
