@@ -1,6 +1,8 @@
 // Cases for the test programs, packed one after the other into bytes. A case is a head of numbers, 4 bytes each, least byte
 // first, and then its parts. The first number is the length of the whole case; for a part the head has two numbers, where it
 // starts in the case and its length. What is not there is 0, or empty.
+#![tactic(auto)]
+
 ghost use Rattle.std.specs.Prelude.{◌≡◌, ◌<◌, get_or};
 ghost use Rattle.cases.specs.Packed.{number_at, part_at, held_at, pattern, stands_in};
 

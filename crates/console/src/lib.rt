@@ -1,4 +1,6 @@
 // The console's one call, for C: what is said of a trace as a status, a result area of 12 bytes and the room.
+#![tactic(auto)]
+
 ghost use Rattle.std.specs.Prelude.{◌≡◌, ◌%◌};
 ghost use Rattle.verdict.specs.Judged.{told};
 ghost use Rattle.console.specs.Called.{handed_by, with_numbers, area_of, status, room_after, area_after};
@@ -6,7 +8,7 @@ ghost use Rattle.console.specs.Called.{handed_by, with_numbers, area_of, status,
 use verdict::Verdict;
 
 // What is handed back: the status, and the three numbers of the area.
-#[derive(Drop)]
+#[derive(Clone, Copy)]
 pub struct Handed {
     pub status: u32,
     pub points: u32,
@@ -88,6 +90,6 @@ pub extern "C" fn sklandupa_explain(
     }
     let handed = hand_back(verdict::explain(file, trace, budget, room));
     let filled = area_bytes(handed);
-    bytes::copy(&filled, area);
+    area.copy_from_slice(&filled);
     handed.status
 }

@@ -7,7 +7,7 @@ use verdict::Verdict;
 
 // A status, 0 explained, 1 unexplained, 2 undecided, or 10 plus the number of a refusal; then points, events and place, 0
 // where there is none.
-#[derive(Drop)]
+#[derive(Clone, Copy)]
 struct Answer(u32, u32, u32, u32);
 
 fn told_refusal(refusal: Refusal) -> Answer {

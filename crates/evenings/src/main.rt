@@ -1,5 +1,7 @@
 // Asks whether evenings can be explained, compares answers and rooms with what is expected, and says how many differ, and
 // which. Each group of cases is a file of its own.
+#![tactic(auto)]
+
 mod case;
 mod judging;
 
@@ -8,7 +10,7 @@ ghost use Rattle.std.specs.Prelude.{◌≡◌, length};
 use libc::STDOUT_FILENO;
 
 // How many cases of a group there are, and how many of them differ.
-#[derive(Drop)]
+#[derive(Clone, Copy)]
 struct Tally {
     cases: u64,
     differ: u64,

@@ -1,5 +1,7 @@
 // When each event may happen, and what then holds, row by row of document 01's table, from the first state on. Every
 // contract cites the table, the definitions `may` and `then` of model/specs/Model.antt.
+#![tactic(auto)]
+
 mod tablets;
 
 ghost use Rattle.std.specs.Prelude.{◌≡◌};

@@ -1,4 +1,6 @@
 // Reads one trace file from standard input, and prints a line or two for each of its traces.
+#![tactic(auto)]
+
 ghost use Rattle.std.specs.Prelude.{◌≡◌, length};
 
 use libc::{STDIN_FILENO, STDOUT_FILENO};

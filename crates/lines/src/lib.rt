@@ -1,4 +1,6 @@
 // The lines that people read, made in bytes that the caller lends. A line that might not fit is not begun.
+#![tactic(auto)]
+
 mod notation;
 mod pieces;
 

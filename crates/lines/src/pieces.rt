@@ -27,7 +27,7 @@ pub fn put(words: &[u8], out: &mut [u8], at: usize) -> usize
         return at;
     }
     let next = at + size;
-    bytes::copy(words, &mut out[at..next]);
+    out[at..next].copy_from_slice(words);
     next
 }
 

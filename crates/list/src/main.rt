@@ -1,5 +1,7 @@
 // Lists one file from standard input: for each trace its number, and then its records, one to a line. A refused file has the
 // single line of its refusal.
+#![tactic(auto)]
+
 ghost use Rattle.std.specs.Prelude.{◌≡◌, length};
 
 use libc::{STDIN_FILENO, STDOUT_FILENO};

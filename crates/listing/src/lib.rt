@@ -1,12 +1,14 @@
 // The reader that holds a body and stands at its next record. Its functions are thin: the work is done over a plain slice and
 // a number.
+#![tactic(auto)]
+
 ghost use Rattle.std.specs.Prelude.{◌≡◌};
 ghost use Rattle.records.specs.Records.{next_record};
 ghost use Rattle.listing.specs.Positions.{position};
 
 use records::Step;
 
-#[derive(Drop)]
+#[derive(Clone, Copy)]
 pub struct Listing<'a> {
     pub body: &'a [u8],
     pub at: usize,

@@ -1,5 +1,7 @@
 // Sets of small numbers, held as the bits of one number: bit i stands for the number i. A number at or past the width
 // has no bit: it is in no set, and putting it in or taking it out changes nothing.
+#![tactic(auto)]
+
 ghost use Rattle.std.specs.Prelude.{◌≡◌};
 ghost use Rattle.marks.specs.Sets.{has, add, remove, lowest};
 

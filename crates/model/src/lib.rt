@@ -1,8 +1,9 @@
 // The synchroniser: its state, the observations and the events. When an event may happen and what then holds, what an
 // explanation is, and the ordered walk are definitions, in specs/; what is true of them stands in proofs/Theorems.antt.
+#![tactic(auto)]
 
 // What the service and its tablets hold. Wide fields first: 24 bytes.
-#[derive(Drop)]
+#[derive(Clone, Copy)]
 pub struct State {
     pub conflicts: u64,
     pub local: [u8; 8],
@@ -12,7 +13,7 @@ pub struct State {
 }
 
 // What a tablet, or the whole home, reports.
-#[derive(Drop)]
+#[derive(Clone, Copy)]
 pub enum Observation {
     Read { tablet: u8, seen: u8 },
     Write { tablet: u8, new: u8, seen: u8 },
@@ -21,7 +22,7 @@ pub enum Observation {
 }
 
 // What happens: something observed, or a hidden upload or download at a tablet.
-#[derive(Drop)]
+#[derive(Clone, Copy)]
 pub enum Event {
     Observed(Observation),
     Up(u8),

@@ -1,11 +1,13 @@
 // One record: 12 bytes, read as five numbers; whether it keeps its row of the table of records; and what it says.
+#![tactic(auto)]
+
 ghost use Rattle.std.specs.Prelude.{◌≡◌, cond, ◌+◌, ◌<◌, ◌^◌, leb, ltb, length};
 ghost use Rattle.records.specs.Bytes.{number};
 ghost use Rattle.records.specs.Records.{record_at, read_row, write_row, stabilize_row, failed_row, keeps_row, next_record, observation_of};
 
 use model::Observation;
 
-#[derive(Drop)]
+#[derive(Clone, Copy)]
 pub struct Record {
     pub set: u64,
     pub kind: u8,
@@ -15,7 +17,7 @@ pub struct Record {
 }
 
 // A step of a listing: the next record and the position after it, or the end with the position as it was.
-#[derive(Drop)]
+#[derive(Clone, Copy)]
 pub enum Step {
     Next(Record, usize),
     End(usize),

@@ -1,4 +1,6 @@
 // The whole text that the program prints for a file, made in bytes that the caller lends.
+#![tactic(auto)]
+
 mod traces;
 
 ghost use Rattle.std.specs.Prelude.{◌≡◌};

@@ -1,4 +1,6 @@
 // The trace file: whether it is good and where it is not, the body of one of its traces.
+#![tactic(auto)]
+
 mod contents;
 
 ghost use Rattle.std.specs.Prelude.{◌≡◌};
@@ -9,7 +11,7 @@ ghost use Rattle.tracefile.specs.File.{check, check_trace, asked};
 use contents::{byte_at, check_contents, check_head, check_records, number2};
 
 // Why a file, or a trace number, is refused. A case that has no fixed place carries it.
-#[derive(Drop)]
+#[derive(Clone, Copy)]
 pub enum Refusal {
     Length,
     Edition,
@@ -21,14 +23,14 @@ pub enum Refusal {
     Trace,
 }
 
-#[derive(Drop)]
+#[derive(Clone, Copy)]
 pub enum Checked {
     Good,
     Refused(Refusal),
 }
 
 // A refusal by its number in the table, and its place.
-#[derive(Drop)]
+#[derive(Clone, Copy)]
 pub struct Numbered {
     pub number: u32,
     pub place: u32,

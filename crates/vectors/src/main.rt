@@ -1,4 +1,6 @@
 // Runs cases from outside through the reader and the writer of trace files, and says how many differ, and which.
+#![tactic(auto)]
+
 mod case;
 mod reading;
 mod writing;
@@ -8,7 +10,7 @@ ghost use Rattle.std.specs.Prelude.{◌≡◌, length};
 use libc::STDOUT_FILENO;
 
 // How many cases of a kind there are, and how many of them differ.
-#[derive(Drop)]
+#[derive(Clone, Copy)]
 struct Tally {
     cases: u64,
     differ: u64,

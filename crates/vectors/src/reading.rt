@@ -3,7 +3,7 @@ use crate::case;
 use tracefile::Checked;
 
 // A refusal by its number in the specification, and its place; 0 and 0 where there is none.
-#[derive(Drop)]
+#[derive(Clone, Copy)]
 struct Answer(u32, u32);
 
 fn told(checked: Checked) -> Answer {

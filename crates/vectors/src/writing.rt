@@ -6,7 +6,7 @@ use writer::{Unwritten, Written};
 
 // A refusal by its number in the specification, and its place, 0 and 0 where there is none; then the length of the file, 0
 // where there is none.
-#[derive(Drop)]
+#[derive(Clone, Copy)]
 struct Answer(u32, u32, u32);
 
 fn told_unwritten(unwritten: Unwritten) -> Answer {

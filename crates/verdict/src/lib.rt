@@ -1,4 +1,6 @@
 // One file, one trace, one answer: whether the service could have behaved as the tablets report.
+#![tactic(auto)]
+
 ghost use Rattle.std.specs.Prelude.{◌≡◌, length};
 ghost use Rattle.verdict.specs.Judged.{told, judged, room_judged};
 
@@ -6,7 +8,7 @@ use tracefile::{Checked, Refusal};
 use walk::Answer;
 
 // What is said of a trace.
-#[derive(Drop)]
+#[derive(Clone, Copy)]
 pub enum Verdict {
     Explained { points: u32, events: u32 },
     Unexplained { points: u32 },

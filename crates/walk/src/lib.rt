@@ -1,5 +1,7 @@
 // The ordered walk over a body: visit and choose call each other. Events fall at each visit, choices at each further
 // choice; the room is written only on the way back from the first end.
+#![tactic(auto)]
+
 mod choices;
 mod rooms;
 
@@ -16,7 +18,7 @@ use rooms::{count_writes, short_of};
 
 // What a visit comes to: an end, with what is left of the budget and the number of events from here; no end, with what is
 // left; the budget spent; or the depth stop.
-#[derive(Drop)]
+#[derive(Clone, Copy)]
 pub enum Seen {
     Found(u32, usize),
     Nothing(u32),
@@ -25,7 +27,7 @@ pub enum Seen {
 }
 
 // What the walk says: with its points, and for an explanation its number of events.
-#[derive(Drop)]
+#[derive(Clone, Copy)]
 pub enum Answer {
     Explained(u32, usize),
     Unexplained(u32),

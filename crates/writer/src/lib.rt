@@ -1,10 +1,12 @@
 // A trace file from records. It decides before it writes, so that a refusal leaves the whole buffer as it was.
+#![tactic(auto)]
+
 ghost use Rattle.std.specs.Prelude.{◌≡◌, cond, not, ◌||◌, ◌*◌, ltb, eqb, length};
 ghost use Rattle.tracefile.specs.File.{record_size};
 ghost use Rattle.writer.specs.Written.{refused, wrote, told, sum, over, bad_record, write, file_of, buffer_after};
 
 // Why nothing was written. The place is 0 where a case carries none.
-#[derive(Drop)]
+#[derive(Clone, Copy)]
 pub enum Unwritten {
     Tablets,
     Values,
@@ -15,7 +17,7 @@ pub enum Unwritten {
 }
 
 // The length of the file that now stands in the buffer, or why there is none.
-#[derive(Drop)]
+#[derive(Clone, Copy)]
 pub enum Written {
     Length(u32),
     Refused(Unwritten),
@@ -118,6 +120,6 @@ pub fn write_file(n: u32, v: u32, counts: &[u32], records: &[u8], buffer: &mut [
         at += 12 * count;
         i += 1;
     }
-    bytes::copy(records, &mut buffer[start..]);
+    buffer[start..start + records.len()].copy_from_slice(records);
     Written::Length(length)
 }
