@@ -1,12 +1,10 @@
 -- What the call hands back, in terms of what it calls.
 -- Assumes nothing.
 use Prim.Native.Nat.{ℕ, ◌+◌, ◌≤◌}
-use native.Mathlib.Nat.{le_of_eq}
 use native.Mathlib.Omega.{arith}
-use mathlib.Core.List.{List, [], ◌++◌, append-nil}
-use mathlib.Core.Path.{◌≡◌, refl, sym, ap, ap₂, ◌∙◌}
-use lib.ListN.{length, take, drop, drop_of_length-le}
-use lib.Seq.{take_all}
+use mathlib.Core.List.{List}
+use mathlib.Core.Path.{◌≡◌, refl, ap, ◌∙◌}
+use lib.ListN.{length}
 use borrow.Author.Tests.{eq-eqb, ne_eqb}
 use Rattle.tracefile.specs.Refusals as R
 use Rattle.tracefile.specs.declared.Refusal.{Refusal}
@@ -44,12 +42,9 @@ module _ (file : List ℕ) (trace budget : ℕ) (room area : List ℕ) where
   -- any other: what is said is handed back
   pub right_area : length area ≡ 12 → (verdict : Verdict) (handed : Handed) (filled room-left area-left : List ℕ)
       → handed ≡ handed_by (told verdict) → told verdict ≡ judged file trace budget (length room) → room-left ≡ room_judged file trace budget room
-      → filled ≡ area_of handed → area-left ≡ take (length filled) filled ++ drop (length filled) area → Handing handed.status room-left area-left
+      → filled ≡ area_of handed → area-left ≡ filled → Handing handed.status room-left area-left
   unfolding status room_after area_after
-  right_area h verdict handed filled room-left area-left e s r a l =
+  right_area h verdict handed filled room-left area-left e s r a all =
       let t = eq-eqb (length area) 12 h in
       let q : handed ≡ handed_by (judged file trace budget (length room)) = e ∙ ap handed_by s in
-      let twelve : length filled ≡ 12 = ap length a in
-      let gone : drop (length filled) area ≡ [] = drop_of_length-le area (le_of_eq (h ∙ sym twelve)) in
-      let all : area-left ≡ filled = l ∙ ap₂ ◌++◌ (take_all (length filled) filled (le_of_eq refl)) gone ∙ append-nil filled in
       (rw t (ap (λ (x : Handed). x.status) q), (rw t r, rw t (all ∙ a ∙ ap area_of q)))

@@ -3,7 +3,10 @@
 
 ghost use Rattle.std.specs.Prelude.{◌≡◌, length};
 
-use libc::{STDIN_FILENO, STDOUT_FILENO};
+// The process's input and output.
+const STDIN: i32 = 0;
+
+const STDOUT: i32 = 1;
 
 // Room for the longest text.
 fn blank() -> [u8; report::ROOM]
@@ -15,8 +18,8 @@ fn blank() -> [u8; report::ROOM]
 fn main() {
     // 65,536 bytes are one more than the longest file has, so that a longer one is seen to be too long.
     let mut file = io::large_buffer();
-    let length = io::read_full(STDIN_FILENO, &mut file);
+    let length = io::read_full(STDIN, &mut file);
     let mut text = blank();
     let size = report::report(&file[..length], &mut text);
-    io::write_all(STDOUT_FILENO, &text[..size]);
+    io::write_all(STDOUT, &text[..size]);
 }

@@ -1,7 +1,7 @@
 -- Texts put one after the other make one text.
 -- Assumes nothing.
 use mathlib.Core.Bool.{Bool, true, false, cond}
-use mathlib.Core.List.{List, [], ◌∷◌, ◌++◌, append_assoc, append-nil}
+use mathlib.Core.List.{List, [], ◌∷◌, ◌++◌, append_assoc}
 use mathlib.Core.Path.{◌≡◌, refl, sym, ap, ap₂, ◌∙◌, subst}
 use Prim.Native.Nat.{ℕ, ◌+◌, ◌-◌, ◌≤◌, ◌<◌}
 use native.Mathlib.Nat.{zero-add}
@@ -9,8 +9,8 @@ use native.Mathlib.Numerals.{add-one}
 use native.Mathlib.Omega.{arith}
 use lib.Dec.{ltb}
 use borrow.Author.Tests.{lt-ltb, le-ltb}
-use lib.ListN.{length, take, drop, set, length-append, length-take, length-drop, drop_of_length-le}
-use lib.Seq.{length-take-le, take_at, take-length, drop-drop, set_split, drop-append-add}
+use lib.ListN.{length, take, drop, set, length-append, length-drop}
+use lib.Seq.{length-take-le, take_at, drop-drop, set_split, drop-append-add}
 use Rattle.lines.specs.Put.{Stands, Put, written, after}
 
 -- one that does not fit is not asked for
@@ -34,15 +34,11 @@ unfolding Put
 byte_put byte at out h = λ fits. record { ends = refl; bytes = rw add-one (set_split out at byte h) }
 
 -- words are copied into the part that is as long as they are
-pub words_put : (words out copied : List ℕ) (at : ℕ) → at + length words ≤ length out
-    → copied ≡ take (length words) words ++ drop (length words) (take (at + length words - at) (drop at out))
+pub words_put : (words out copied : List ℕ) (at : ℕ) → at + length words ≤ length out → copied ≡ words
     → Put words out at (at + length words) (take at out ++ (copied ++ drop (at + length words - at) (drop at out)))
 unfolding Put
-words_put words out copied at h copy =
+words_put words out copied at h whole =
     let e : at + length words - at ≡ length words = omega arith in
-    let short : length (take (at + length words - at) (drop at out)) ≤ length words = rw length-take (omega arith) in
-    let nothing = drop_of_length-le (take (at + length words - at) (drop at out)) {i = length words} short in
-    let whole : copied ≡ words = copy ∙ ap₂ ◌++◌ (take-length words) nothing ∙ append-nil words in
     λ fits. record {
       ends = refl;
       bytes = rw (whole, e, drop-drop);

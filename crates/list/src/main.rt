@@ -4,7 +4,11 @@
 
 ghost use Rattle.std.specs.Prelude.{◌≡◌, length};
 
-use libc::{STDIN_FILENO, STDOUT_FILENO};
+// The process's input and output.
+const STDIN: i32 = 0;
+
+const STDOUT: i32 = 1;
+
 use records::Step;
 use tracefile::{Checked, Refusal};
 
@@ -18,7 +22,7 @@ fn blank() -> [u8; 256]
 // Writes the first bytes of a line.
 fn say(line: &[u8], length: usize) {
     if length <= line.len() {
-        io::write_all(STDOUT_FILENO, &line[0..length]);
+        io::write_all(STDOUT, &line[0..length]);
     }
 }
 
@@ -82,6 +86,6 @@ fn list(file: &[u8]) {
 fn main() {
     // 65,536 bytes are one more than the longest file has, so that a longer one is seen to be too long.
     let mut file = io::large_buffer();
-    let length = io::read_full(STDIN_FILENO, &mut file);
+    let length = io::read_full(STDIN, &mut file);
     list(&file[..length]);
 }

@@ -5,9 +5,13 @@
 mod case;
 mod writing;
 
-ghost use Rattle.std.specs.Prelude.{◌≡◌, length};
+ghost use Rattle.std.specs.Prelude.{◌≡◌, ◌≤◌, IfOk, length};
 
-use libc::STDOUT_FILENO;
+use std::fs::File;
+use std::io::Read;
+
+// The process's output.
+const STDOUT: i32 = 1;
 
 // How many cases of a group there are, and how many of them differ.
 #[derive(Clone, Copy)]
@@ -18,10 +22,10 @@ struct Tally {
 
 // Says the name of a case that differs.
 fn say_name(group: &[u8], packed: &[u8]) {
-    io::write_all(STDOUT_FILENO, group);
-    io::write_all(STDOUT_FILENO, b": ");
-    io::write_all(STDOUT_FILENO, cases::held(packed, case::NAME));
-    io::write_all(STDOUT_FILENO, b" differs\n");
+    io::write_all(STDOUT, group);
+    io::write_all(STDOUT, b": ");
+    io::write_all(STDOUT, cases::held(packed, case::NAME));
+    io::write_all(STDOUT, b" differs\n");
 }
 
 // Runs the cases in the order of their file, and says the name of each that differs.
@@ -51,12 +55,12 @@ fn run(all: &[u8], group: &[u8]) -> Tally {
 // Runs the cases of a group, and says in one line how many there are and how many differ.
 fn run_all(all: &[u8], group: &[u8]) {
     let tally = run(all, group);
-    io::write_all(STDOUT_FILENO, group);
-    io::write_all(STDOUT_FILENO, b": ");
-    io::print_decimal(STDOUT_FILENO, tally.cases);
-    io::write_all(STDOUT_FILENO, b" cases, ");
-    io::print_decimal(STDOUT_FILENO, tally.differ);
-    io::write_all(STDOUT_FILENO, b" differ\n");
+    io::write_all(STDOUT, group);
+    io::write_all(STDOUT, b": ");
+    io::print_decimal(STDOUT, tally.cases);
+    io::write_all(STDOUT, b" cases, ");
+    io::print_decimal(STDOUT, tally.differ);
+    io::write_all(STDOUT, b" differ\n");
 }
 
 // Room for the whole file of a group, and some to spare.
@@ -66,20 +70,31 @@ fn empty() -> [u8; 524288]
     [0; 524288]
 }
 
-// Runs the cases of a group, which stand in the file of that name.
-fn run_group(group: &[u8]) {
-    let opened = os::open_read(group);
-    if opened < 0 {
-        os::fail(group);
-        return;
+// Reads until the room is full or the file ends, and says how many bytes came.
+fn read_full(opened: &mut File, room: &mut [u8]) -> std::io::Result<usize>
+    ensures { IfOk result (λ n. n ≤ length room.new) }
+{
+    let mut done = 0;
+    while done < room.len() {
+        let n = opened.read(&mut room[done..])?;
+        if n == 0 {
+            break;
+        }
+        done += n;
     }
-    let mut room = empty();
-    let length = io::read_full(opened, &mut room);
-    libc::close(opened);
-    run_all(&room[..length], group);
+    Ok(done)
 }
 
-fn main() {
-    run_group(b"worked");
-    run_group(b"copied");
+// Runs the cases of a group, which stand in the file of that name.
+fn run_group(rt: &HostRuntime, group: &str) -> std::io::Result<()> {
+    let mut opened = File::open(rt, group)?;
+    let mut room = empty();
+    let length = read_full(&mut opened, &mut room)?;
+    run_all(&room[..length], group.as_bytes());
+    Ok(())
+}
+
+fn main(rt: HostRuntime) -> std::io::Result<()> {
+    run_group(&rt, "worked")?;
+    run_group(&rt, "copied")
 }

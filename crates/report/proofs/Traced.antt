@@ -1,12 +1,9 @@
 -- The lines of a trace: what was said of it, and the events that stand in the room.
 -- Assumes nothing.
 use mathlib.Core.List.{List, [], ◌∷◌, ◌++◌, append-nil}
-use mathlib.Core.Logic.{⊎_elim}
 use mathlib.Core.Path.{◌≡◌, refl, sym, ap, ◌∙◌, subst}
 use Prim.Native.Nat.{ℕ, ◌*◌, ◌≤◌}
 use native.Mathlib.Omega.{arith}
-use types.Run.{OneOf}
-use denote.Enum.Declared.{tag_of}
 use lib.ListN.{length, take, drop, length-append, length-drop}
 use lib.Seq.{take_at}
 use Rattle.model.specs.Walk.{Outcome, explained, unexplained, undecided, too_deep}
@@ -17,7 +14,6 @@ use Rattle.model.specs.declared.Observation.TheVariants.{Read, Write, Stabilize,
 use Rattle.tracefile.specs.Refusals as R
 use Rattle.tracefile.specs.File.{tablets_in, check_trace}
 use Rattle.walk.specs.Steps.{laid, laid_in, outcome_in}
-use Rattle.verdict.specs.contracts.Verdict.{the_type}
 use Rattle.verdict.specs.declared.Verdict.{Verdict}
 use Rattle.verdict.specs.declared.Verdict.TheVariants.{Explained, Unexplained, Undecided, Refused, NoRoom, TooDeep}
 use Rattle.verdict.specs.Judged.{Said, explained_by, unexplained_in, undecided_at, refused, file_refusal, told, evening, said, judged, room_judged}
@@ -53,9 +49,8 @@ refusal_explains_nothing R.accepted h = h
 refusal_explains_nothing (R.refused number place) h = h
 
 -- an answer of any case but the first
-not_explained : (v : Verdict) → OneOf (1 ∷ 2 ∷ 3 ∷ 4 ∷ 5 ∷ []) (tag_of the_type v) → IsExplained (told v) → ⊥
-not_explained (Explained k m) h i =
-    ⊎_elim (λ e. omega arith) (λ h. ⊎_elim (λ e. omega arith) (λ h. ⊎_elim (λ e. omega arith) (λ h. ⊎_elim (λ e. omega arith) (λ e. omega arith) h) h) h) h
+not_explained : (v : Verdict) → ((k m : ℕ) → v ≡ Explained k m → ⊥) → IsExplained (told v) → ⊥
+not_explained (Explained k m) h i = h k m refl
 not_explained (Unexplained k) h i = i
 not_explained (Undecided b) h i = i
 not_explained (Refused r) h i = refusal_explains_nothing (R.refusal r) i
@@ -96,7 +91,7 @@ module _ (f : List ℕ) (t : ℕ) (zeros room : List ℕ) (v : Verdict) (size : 
   said_so : told v ≡ said (outcome (tablets_in f) (evening f t) budget)
   said_so = says ∙ as_walked f t budget zeros ready
 
-  pub one_line : (out : List ℕ) (at next : ℕ) (last : List ℕ) → OneOf (1 ∷ 2 ∷ 3 ∷ 4 ∷ 5 ∷ []) (tag_of the_type v)
+  pub one_line : (out : List ℕ) (at next : ℕ) (last : List ℕ) → ((k m : ℕ) → v ≡ Explained k m → ⊥)
       → PutIn line_room (answer_text t (told v)) out at next last → PutIn trace_room (trace_text f t) out at next last
   unfolding trace_text
   one_line out at next last h p =

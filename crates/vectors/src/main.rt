@@ -5,9 +5,13 @@ mod case;
 mod reading;
 mod writing;
 
-ghost use Rattle.std.specs.Prelude.{◌≡◌, length};
+ghost use Rattle.std.specs.Prelude.{◌≡◌, ◌≤◌, IfOk, length};
 
-use libc::STDOUT_FILENO;
+use std::fs::File;
+use std::io::Read;
+
+// The process's output.
+const STDOUT: i32 = 1;
 
 // How many cases of a kind there are, and how many of them differ.
 #[derive(Clone, Copy)]
@@ -27,9 +31,9 @@ fn agrees(packed: &[u8]) -> bool {
 
 // Says the name of a case that differs.
 fn say_name(label: &[u8], packed: &[u8]) {
-    io::write_all(STDOUT_FILENO, label);
-    io::write_all(STDOUT_FILENO, cases::held(packed, case::NAME));
-    io::write_all(STDOUT_FILENO, b" differs\n");
+    io::write_all(STDOUT, label);
+    io::write_all(STDOUT, cases::held(packed, case::NAME));
+    io::write_all(STDOUT, b" differs\n");
 }
 
 // Runs the cases of a kind in the order of the file, and says the name of each that differs.
@@ -61,11 +65,11 @@ fn run(all: &[u8], kind: u32, label: &[u8]) -> Tally {
 // Runs the cases of a kind, and says in one line how many there are and how many differ.
 fn run_group(all: &[u8], kind: u32, label: &[u8]) {
     let tally = run(all, kind, label);
-    io::write_all(STDOUT_FILENO, label);
-    io::print_decimal(STDOUT_FILENO, tally.cases);
-    io::write_all(STDOUT_FILENO, b" cases, ");
-    io::print_decimal(STDOUT_FILENO, tally.differ);
-    io::write_all(STDOUT_FILENO, b" differ\n");
+    io::write_all(STDOUT, label);
+    io::print_decimal(STDOUT, tally.cases);
+    io::write_all(STDOUT, b" cases, ");
+    io::print_decimal(STDOUT, tally.differ);
+    io::write_all(STDOUT, b" differ\n");
 }
 
 // Room for the whole file of cases, and some to spare.
@@ -75,16 +79,26 @@ fn empty() -> [u8; 524288]
     [0; 524288]
 }
 
-fn main() {
-    let path = b"cases";
-    let opened = os::open_read(path);
-    if opened < 0 {
-        os::fail(path);
-        return;
+// Reads until the room is full or the file ends, and says how many bytes came.
+fn read_full(opened: &mut File, room: &mut [u8]) -> std::io::Result<usize>
+    ensures { IfOk result (λ n. n ≤ length room.new) }
+{
+    let mut done = 0;
+    while done < room.len() {
+        let n = opened.read(&mut room[done..])?;
+        if n == 0 {
+            break;
+        }
+        done += n;
     }
+    Ok(done)
+}
+
+fn main(rt: HostRuntime) -> std::io::Result<()> {
+    let mut opened = File::open(&rt, "cases")?;
     let mut room = empty();
-    let length = io::read_full(opened, &mut room);
-    libc::close(opened);
+    let length = read_full(&mut opened, &mut room)?;
     run_group(&room[..length], case::READER, b"reader: ");
     run_group(&room[..length], case::WRITER, b"writer: ");
+    Ok(())
 }

@@ -1,5 +1,5 @@
 -- What a visit hands back: what is left of the budget, and the events in the room.
-use Rattle.std.specs.Prelude.{ℕ, zero, suc, ◌+◌, ◌-◌, ◌*◌, cond, List, [], ◌∷◌, ◌++◌, leb, ltb, length, drop}
+use Rattle.std.specs.Prelude.{ℕ, zero, suc, ◌-◌, ◌*◌, cond, List, [], ◌∷◌, ◌++◌, leb, ltb, length, drop}
 use Rattle.model.specs.Walk.{Choice, Walked, found, endless, stopped, walked, Outcome, explained, unexplained, undecided, too_deep}
 use Rattle.model.specs.Model.{service, then, depth, outcome}
 use Rattle.model.specs.declared.State.{State}

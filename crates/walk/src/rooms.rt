@@ -1,4 +1,4 @@
-// How much room a walk may need: 2·(T + typeof.n.W) bytes for T observations with W writes on n tablets.
+// How much room a walk may need: 2·(T + n·W) bytes for T observations with W writes on n tablets.
 ghost use Rattle.std.specs.Prelude.{◌≡◌, [], ◌∷◌, ◌+◌, ◌*◌, ltb};
 ghost use Rattle.model.specs.Model.{writes};
 ghost use Rattle.records.specs.Records.{record_at, observation_of, observations};

@@ -6,7 +6,7 @@ use Prim.Native.Nat.{ℕ, ◌+◌, ◌*◌, ◌-◌, ◌/◌, ◌%◌, ◌≤◌
 use native.Mathlib.Numerals.{add-one, add-two, add-three}
 use native.Mathlib.Omega.{arith}
 use lib.ListN.{length, get_or, take, drop, set, length-append, length-set, drop_of_length-le, take-append-drop}
-use lib.Seq.{sets-eq, drop-cons, drop-set-lt, length-take-le, take_at, drop_at, take_all, take-length, drop-drop}
+use lib.Seq.{sets-eq, drop-cons, drop-set-lt, length-take-le, take_at, drop_at, take_all, drop-drop}
 use Rattle.tracefile.specs.File.{entry, record_size}
 use Rattle.writer.specs.Written.{sum, entries_of, file_of, file_size, wrote, buffer_after}
 
@@ -109,13 +109,13 @@ module _ (counts b₀ b : List ℕ) (at i : ℕ) (now : Entered counts b₀ b at
 -- records copied into a list of two parts, from where the first of them ends
 copied_behind : (first rest records copied : List ℕ) (start : ℕ) → length first ≡ start
     → copied
-    ≡ take (length records) records
+    ≡ records
     ++ drop (length records) (take (length (first ++ rest) - start) (drop start (first ++ rest)))
     → take start (first ++ rest) ++ (copied ++ drop (length (first ++ rest) - start) (drop start (first ++ rest)))
     ≡ first ++ (records ++ drop (length records) rest)
 copied_behind first rest records copied start e copy =
     let left : length rest ≤ length (first ++ rest) - start = rw length-append (omega arith) in
-    rw (copy, take_at first rest start e, drop_at first rest start e, take-length, take_all (length (first ++ rest) - start) rest left, drop_of_length-le rest left, append-nil)
+    rw (copy, take_at first rest start e, drop_at first rest start e, take_all (length (first ++ rest) - start) rest left, drop_of_length-le rest left, append-nil)
 
 module _ (n v : ℕ) (counts records buffer : List ℕ) (size : ℕ) (whole : size ≡ file_size counts records) (room : size ≤ length buffer) where
   -- the head and the entries
@@ -134,7 +134,7 @@ module _ (n v : ℕ) (counts records buffer : List ℕ) (size : ℕ) (whole : si
   -- the records, copied behind them, complete the file
   pub finished : (b copied : List ℕ) → b ≡ with_entries counts (four buffer 0 1 n v (length counts))
       → copied
-      ≡ take (length records) records
+      ≡ records
       ++ drop (length records) (take (length b - entry (length counts)) (drop (entry (length counts)) b))
       → take (entry (length counts)) b ++ (copied ++ drop (length b - entry (length counts)) (drop (entry (length counts)) b))
       ≡ buffer_after (file_of n v counts records) buffer (wrote size)
