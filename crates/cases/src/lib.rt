@@ -1,10 +1,13 @@
 // Cases for the test programs, packed one after the other into bytes. A case is a head of numbers, 4 bytes each, least byte
 // first, and then its parts. The first number is the length of the whole case; for a part the head has two numbers, where it
-// starts in the case and its length. What is not there is 0, or empty.
+// starts in the case and its length. What is not there is 0, or empty. The file that they stand in is read here too.
 #![tactic(auto)]
 
-ghost use Rattle.std.specs.Prelude.{◌≡◌, ◌<◌, get_or};
+ghost use Rattle.std.specs.Prelude.{◌≡◌, ◌<◌, ◌≤◌, IfOk, get_or, length};
 ghost use Rattle.cases.specs.Packed.{number_at, part_at, held_at, pattern, stands_in};
+
+use std::io;
+use std::io::Read;
 
 // What every byte that is lent for writing is beforehand.
 pub const PATTERN: u8 = 0xa5;
@@ -78,4 +81,20 @@ pub fn stands(front: &[u8], bytes: &[u8]) -> bool
         i += 1;
     }
     true
+}
+
+// Reads until the room is full or there is no more, and says how many bytes came. A read that fails ends it.
+pub fn read_full(reader: &mut impl Read, room: &mut [u8]) -> io::Result<usize>
+    ensures same_length { length room.new ≡ length room.old }
+    ensures within { IfOk result (λ n. n ≤ length room.new) }
+{
+    let mut done = 0;
+    while done < room.len() {
+        let came = reader.read(&mut room[done..])?;
+        if came == 0 {
+            break;
+        }
+        done += came;
+    }
+    Ok(done)
 }

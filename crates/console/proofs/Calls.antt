@@ -31,8 +31,8 @@ refused_by r number place h = ap (λ (a : R.Answer). handed_by (file_refusal a))
 
 module _ (file : List ℕ) (trace budget : ℕ) (room area : List ℕ) where
   abbrev pub Handing : ℕ → List ℕ → List ℕ → Type 0
-  Handing answer room-left area-left =
-      (answer ≡ status file trace budget room area) × ((room-left ≡ room_after file trace budget room area) × (area-left ≡ area_after file trace budget room area))
+  Handing answer room_left area_left =
+      (answer ≡ status file trace budget room area) × ((room_left ≡ room_after file trace budget room area) × (area_left ≡ area_after file trace budget room area))
 
   -- an area not of 12 bytes
   pub wrong_area : (length area ≡ 12 → ⊥) → Handing 19 room area
@@ -40,11 +40,11 @@ module _ (file : List ℕ) (trace budget : ℕ) (room area : List ℕ) where
   wrong_area h = let e = ne_eqb (length area) 12 h in (rw e refl, (rw e refl, rw e refl))
 
   -- any other: what is said is handed back
-  pub right_area : length area ≡ 12 → (verdict : Verdict) (handed : Handed) (filled room-left area-left : List ℕ)
-      → handed ≡ handed_by (told verdict) → told verdict ≡ judged file trace budget (length room) → room-left ≡ room_judged file trace budget room
-      → filled ≡ area_of handed → area-left ≡ filled → Handing handed.status room-left area-left
+  pub right_area : length area ≡ 12 → (verdict : Verdict) (handed : Handed) (filled room_left area_left : List ℕ)
+      → handed ≡ handed_by (told verdict) → told verdict ≡ judged file trace budget (length room) → room_left ≡ room_judged file trace budget room
+      → filled ≡ area_of handed → area_left ≡ filled → Handing handed.status room_left area_left
   unfolding status room_after area_after
-  right_area h verdict handed filled room-left area-left e s r a all =
+  right_area h verdict handed filled room_left area_left e s r a all =
       let t = eq-eqb (length area) 12 h in
       let q : handed ≡ handed_by (judged file trace budget (length room)) = e ∙ ap handed_by s in
       (rw t (ap (λ (x : Handed). x.status) q), (rw t r, rw t (all ∙ a ∙ ap area_of q)))

@@ -67,9 +67,9 @@ one_of (unexplained_in k) l = (omega arith, λ h. omega arith)
 one_of (undecided_at b) l = (omega arith, λ h. omega arith)
 one_of (refused number place) l = let x = l.0 in let y = l.1 in (omega arith, λ h. omega arith)
 
-module _ (f : List ℕ) (t b : ℕ) (room area : List ℕ) (answer : ℕ) (room-left area-left : List ℕ) (p : Allowed f t b room area answer room-left area-left) where
+module _ (f : List ℕ) (t b : ℕ) (room area : List ℕ) (answer : ℕ) (room_left area_left : List ℕ) (p : Allowed f t b room area answer room_left area_left) where
   -- an area not of 12 bytes: "refusal 9 before all else", and it "stays untouched"
-  pub area_as_it_came : (length area ≡ 12 → ⊥) → (answer ≡ 19) × ((room-left ≡ room) × (area-left ≡ area))
+  pub area_as_it_came : (length area ≡ 12 → ⊥) → (answer ≡ 19) × ((room_left ≡ room) × (area_left ≡ area))
   area_as_it_came h = let w = wrong_area f t b room area h in (p.says ∙ sym w.0, (p.leaves ∙ sym w.1.0, p.tells ∙ sym w.1.1))
 
   -- what is said, and what the library's call below allows
@@ -77,7 +77,7 @@ module _ (f : List ℕ) (t b : ℕ) (room area : List ℕ) (answer : ℕ) (room-
   said = judged f t b (length room)
 
   module _ (twelve : length area ≡ 12) where
-    below : J.Allowed f t b room said room-left
+    below : J.Allowed f t b room said room_left
     unfolding room_after
     below = record { says = refl; leaves = p.leaves ∙ rw (eq-eqb (length area) 12 twelve) refl }
 
@@ -85,7 +85,7 @@ module _ (f : List ℕ) (t b : ℕ) (room area : List ℕ) (answer : ℕ) (room-
     unfolding status
     its_status = p.says ∙ rw (eq-eqb (length area) 12 twelve) refl
 
-    its_area : area-left ≡ area_of (handed_by said)
+    its_area : area_left ≡ area_of (handed_by said)
     unfolding area_after
     its_area = p.tells ∙ rw (eq-eqb (length area) 12 twelve) refl
 
@@ -103,14 +103,14 @@ module _ (f : List ℕ) (t b : ℕ) (room area : List ℕ) (answer : ℕ) (room-
   pub one_of_the_listed : OneOf answer
   one_of_the_listed =
       by_area (OneOf answer)
-      (λ twelve. subst OneOf (sym (its_status twelve)) (one_of said (D.one_of_the_listed f t b room said room-left (below twelve))))
+      (λ twelve. subst OneOf (sym (its_status twelve)) (one_of said (D.one_of_the_listed f t b room said room_left (below twelve))))
       (λ other. let e = (area_as_it_came other).0 in (omega arith, λ h. omega arith))
 
   -- "the room lent for an explanation … is then exactly as it came": whatever the status is but 0
-  pub room_as_it_came : (answer ≡ 0 → ⊥) → room-left ≡ room
+  pub room_as_it_came : (answer ≡ 0 → ⊥) → room_left ≡ room
   room_as_it_came h =
-      by_area (room-left ≡ room)
-      (λ twelve. D.room_as_it_came f t b room said room-left (below twelve) (λ k m e. h (its_status twelve ∙ ap (λ s. (handed_by s).status) e)))
+      by_area (room_left ≡ room)
+      (λ twelve. D.room_as_it_came f t b room said room_left (below twelve) (λ k m e. h (its_status twelve ∙ ap (λ s. (handed_by s).status) e)))
       (λ other. (area_as_it_came other).1.0)
 
   -- ---- demand 2
@@ -120,12 +120,12 @@ module _ (f : List ℕ) (t b : ℕ) (room area : List ℕ) (answer : ℕ) (room-
 
   -- "'Explained' comes only with a sequence …": the room holds it, and the area says how long it is
   pub explained_only_with : answer ≡ 0
-      → (es : List Event) × (Explanation (tablets_in f) (evening f t) es × ((room-left ≡ laid_in es room)
-      × ((points : ℕ) × (area-left ≡ four_bytes points ++ (four_bytes (length es) ++ four_bytes 0)))))
+      → (es : List Event) × (Explanation (tablets_in f) (evening f t) es × ((room_left ≡ laid_in es room)
+      × ((points : ℕ) × (area_left ≡ four_bytes points ++ (four_bytes (length es) ++ four_bytes 0)))))
   explained_only_with z =
       let twelve = of_twelve_bytes (omega arith) in
       let s = is_explained said (sym (its_status twelve) ∙ z) in
-      let e = D.explained_only_with f t b room s.0 s.1.0 said room-left (below twelve) s.1.1 in
+      let e = D.explained_only_with f t b room s.0 s.1.0 said room_left (below twelve) s.1.1 in
       (e.0, (e.1.0, (e.1.1.1, (s.0, its_area twelve ∙ ap (λ x. area_of (handed_by x)) s.1.1 ∙ ap (λ (m : ℕ). four_bytes s.0 ++ (four_bytes m ++ four_bytes 0)) (sym e.1.1.0)))))
 
   -- "'Unexplained' comes only if no such sequence exists."
@@ -133,7 +133,7 @@ module _ (f : List ℕ) (t b : ℕ) (room area : List ℕ) (answer : ℕ) (room-
   unexplained_only_if z =
       let twelve = of_twelve_bytes (omega arith) in
       let s = is_unexplained said (sym (its_status twelve) ∙ z) in
-      D.unexplained_only_if f t b room s.0 said room-left (below twelve) s.1
+      D.unexplained_only_if f t b room s.0 said room_left (below twelve) s.1
 
   -- ---- demand 3
 
@@ -142,32 +142,32 @@ module _ (f : List ℕ) (t b : ℕ) (room area : List ℕ) (answer : ℕ) (room-
   none_later z =
       let twelve = of_twelve_bytes (omega arith) in
       let s = is_unexplained said (sym (its_status twelve) ∙ z) in
-      D.none_later f t b room s.0 said room-left (below twelve) s.1
+      D.none_later f t b room s.0 said room_left (below twelve) s.1
 
   -- "For a good file, a trace in it, room enough and no depth stop", the area being part of the room
   module _ (twelve : length area ≡ 12) (ready : Ready f t room) where
     -- "'undecided' exactly when the ordered walk … needs more points than the budget"
     pub undecided_if_more : Unstopped (walk (tablets_in f) (evening f t)) → b < needed (walk (tablets_in f) (evening f t)) → answer ≡ 2
     undecided_if_more u h =
-        its_status twelve ∙ ap (λ s. (handed_by s).status) (D.undecided_if_more f t b room said room-left ready u (below twelve) h)
+        its_status twelve ∙ ap (λ s. (handed_by s).status) (D.undecided_if_more f t b room said room_left ready u (below twelve) h)
 
     pub more_if_undecided : Unstopped (walk (tablets_in f) (evening f t)) → answer ≡ 2 → b < needed (walk (tablets_in f) (evening f t))
     more_if_undecided u z =
         let s = is_undecided said (sym (its_status twelve) ∙ z) in
-        D.more_if_undecided f t b s.0 room said room-left ready u (below twelve) s.1
+        D.more_if_undecided f t b s.0 room said room_left ready u (below twelve) s.1
 
 -- "Any larger budget repeats a decided result, explanation and point count included": status, room and area
-pub repeated : (f : List ℕ) (t b c : ℕ) (room area : List ℕ) (answer later : ℕ) (room-left area-left room-later area-later : List ℕ)
-    → Allowed f t b room area answer room-left area-left → Allowed f t c room area later room-later area-later
+pub repeated : (f : List ℕ) (t b c : ℕ) (room area : List ℕ) (answer later : ℕ) (room_left area_left room_later area_later : List ℕ)
+    → Allowed f t b room area answer room_left area_left → Allowed f t c room area later room_later area_later
     → length area ≡ 12 → Ready f t room → b ≤ c → answer ≤ 1
-    → (later ≡ answer) × ((room-later ≡ room-left) × (area-later ≡ area-left))
-repeated f t b c room area answer later room-left area-left room-later area-later p q twelve ready l d =
-    let decided = is_decided (judged f t b (length room)) (subst (λ x. x ≤ 1) (its_status f t b room area answer room-left area-left p twelve) d) in
-    let same = D.repeated f t b c room (judged f t b (length room)) (judged f t c (length room)) room-left room-later ready l decided
-    (below f t b room area answer room-left area-left p twelve) (below f t c room area later room-later area-later q twelve) in (
-      its_status f t c room area later room-later area-later q twelve ∙ ap (λ s. (handed_by s).status) same.0 ∙ sym (its_status f t b room area answer room-left area-left p twelve),
+    → (later ≡ answer) × ((room_later ≡ room_left) × (area_later ≡ area_left))
+repeated f t b c room area answer later room_left area_left room_later area_later p q twelve ready l d =
+    let decided = is_decided (judged f t b (length room)) (subst (λ x. x ≤ 1) (its_status f t b room area answer room_left area_left p twelve) d) in
+    let same = D.repeated f t b c room (judged f t b (length room)) (judged f t c (length room)) room_left room_later ready l decided
+    (below f t b room area answer room_left area_left p twelve) (below f t c room area later room_later area_later q twelve) in (
+      its_status f t c room area later room_later area_later q twelve ∙ ap (λ s. (handed_by s).status) same.0 ∙ sym (its_status f t b room area answer room_left area_left p twelve),
       (
         same.1,
-        its_area f t c room area later room-later area-later q twelve ∙ ap (λ s. area_of (handed_by s)) same.0 ∙ sym (its_area f t b room area answer room-left area-left p twelve),
+        its_area f t c room area later room_later area_later q twelve ∙ ap (λ s. area_of (handed_by s)) same.0 ∙ sym (its_area f t b room area answer room_left area_left p twelve),
       ),
     )

@@ -35,7 +35,7 @@ unfoldable pub room_after : List ℕ → ℕ → ℕ → List ℕ → List ℕ �
 room_after file trace budget room area = cond (eqb (length area) 12) (room_judged file trace budget room) room
 
 -- What the contract of the call allows: this status, this room and this area afterwards.
-pub record Allowed (file : List ℕ) (trace budget : ℕ) (room area : List ℕ) (answer : ℕ) (room-left area-left : List ℕ) : Type 0 where
+pub record Allowed (file : List ℕ) (trace budget : ℕ) (room area : List ℕ) (answer : ℕ) (room_left area_left : List ℕ) : Type 0 where
   pub says : answer ≡ status file trace budget room area
-  pub leaves : room-left ≡ room_after file trace budget room area
-  pub tells : area-left ≡ area_after file trace budget room area
+  pub leaves : room_left ≡ room_after file trace budget room area
+  pub tells : area_left ≡ area_after file trace budget room area

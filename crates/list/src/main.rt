@@ -4,13 +4,13 @@
 
 ghost use Rattle.std.specs.Prelude.{◌≡◌, length};
 
+use records::Step;
+use tracefile::{Checked, Refusal};
+
 // The process's input and output.
 const STDIN: i32 = 0;
 
 const STDOUT: i32 = 1;
-
-use records::Step;
-use tracefile::{Checked, Refusal};
 
 // Room for a line.
 fn blank() -> [u8; 256]

@@ -1,5 +1,6 @@
--- What the walks over a reader share: its type at a lifetime, what it owns, and what it lends to a function on a slice and a
--- number. A reader is plain to copy, so it is there twice: once to be taken apart, and once whole, for the exit.
+-- For proofs that walk the code of a reader by hand; there is none now, since the check proves the reader by itself. Its type
+-- at a lifetime, what it owns, and what it lends to a function on a slice and a number. A reader is plain to copy, so it is
+-- there twice: once to be taken apart, and once whole, for the exit.
 -- Assumes nothing.
 use mathlib.Core.Path.{◌≡◌, refl}
 use Prim.Native.Nat.{◌<◌, ◌^◌}

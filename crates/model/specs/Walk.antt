@@ -2,8 +2,7 @@
 -- and 'The ordered walk' (points, children, preorder, the count, the depth stop and the budget). Nothing here knows what
 -- a state or an event is.
 use Prim.Native.Nat.{ℕ, zero, suc, ◌+◌, ◌≤◌}
-use Rattle.std.specs.Prelude.{Bool, true, false, ◌&&◌, ◌⊎◌, ◌≡◌, leb, ltb, eqb, length}
-use Rattle.std.proofs.Math.Bool.{cond}
+use Rattle.std.specs.Prelude.{Bool, true, false, cond, ◌&&◌, ◌⊎◌, ◌≡◌, leb, ltb, eqb, length}
 use mathlib.Core.List.{List, [], ◌∷◌, ◌++◌, map, Memᴰ}
 
 -- A service: the table of events.

@@ -5,10 +5,9 @@
 mod case;
 mod writing;
 
-ghost use Rattle.std.specs.Prelude.{◌≡◌, ◌≤◌, IfOk, length};
+ghost use Rattle.std.specs.Prelude.{◌≡◌, length};
 
 use std::fs::File;
-use std::io::Read;
 
 // The process's output.
 const STDOUT: i32 = 1;
@@ -70,26 +69,11 @@ fn empty() -> [u8; 524288]
     [0; 524288]
 }
 
-// Reads until the room is full or the file ends, and says how many bytes came.
-fn read_full(opened: &mut File, room: &mut [u8]) -> std::io::Result<usize>
-    ensures { IfOk result (λ n. n ≤ length room.new) }
-{
-    let mut done = 0;
-    while done < room.len() {
-        let n = opened.read(&mut room[done..])?;
-        if n == 0 {
-            break;
-        }
-        done += n;
-    }
-    Ok(done)
-}
-
 // Runs the cases of a group, which stand in the file of that name.
 fn run_group(rt: &HostRuntime, group: &str) -> std::io::Result<()> {
     let mut opened = File::open(rt, group)?;
     let mut room = empty();
-    let length = read_full(&mut opened, &mut room)?;
+    let length = cases::read_full(&mut opened, &mut room)?;
     run_all(&room[..length], group.as_bytes());
     Ok(())
 }

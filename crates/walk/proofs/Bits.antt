@@ -55,7 +55,7 @@ neither true b = refl
 neither false true = refl
 neither false false = refl
 
-module _ (n : ℕ) (s : State) (fresh-fits : s.fresh < 2 ^ 8) (dirty-fits : s.dirty < 2 ^ 8) where
+module _ (n : ℕ) (s : State) (fresh_fits : s.fresh < 2 ^ 8) (dirty_fits : s.dirty < 2 ^ 8) where
   abbrev ups : ℕ
   ups = bit_and s.dirty (full (seats n))
 
@@ -66,12 +66,12 @@ module _ (n : ℕ) (s : State) (fresh-fits : s.fresh < 2 ^ 8) (dirty-fits : s.di
   hidden = bit_or (ups * 2 ^ 1 % 2 ^ 64) (downs * 2 ^ 9 % 2 ^ 64)
 
   pub ups_fit : ups < 2 ^ 8
-  ups_fit = lt_of_le_of_lt (and_le_l s.dirty (full (seats n))) dirty-fits
+  ups_fit = lt_of_le_of_lt (and_le_l s.dirty (full (seats n))) dirty_fits
 
   pub downs_fit : downs < 2 ^ 8
   downs_fit =
       lt_of_le_of_lt (and_le_l (bit_xor (bit_or s.fresh s.dirty) 255) (full (seats n)))
-      (xor_lt 8 (bit_or s.fresh s.dirty) 255 (or_lt 8 s.fresh s.dirty fresh-fits dirty-fits) (lit< tt))
+      (xor_lt 8 (bit_or s.fresh s.dirty) 255 (or_lt 8 s.fresh s.dirty fresh_fits dirty_fits) (lit< tt))
 
   -- nothing is shifted out
   plain : hidden ≡ bit_or (ups * 2 ^ 1) (downs * 2 ^ 9)

@@ -99,27 +99,27 @@ module _ (n b set : ℕ) (s : State) (body room : List ℕ) where
         (ap (λ (w : Walked Event). left_of b (or_else (service n) (event_of p o) w rest)) (child_deep n s _ room m) ∙ too_deep n b (event_of p o) rest (omega arith))
 
     -- the child has been visited: what it handed back, and what it left of its part of the room
-    module _ (left : b ≡ 0 → ⊥) (room-left : 2 ≤ length room) (pick skip : ℕ) (next : State) (seen : Seen) (last : List ℕ)
-        (is-pick : pick ≡ lowest 64 set)
-        (is-next : next ≡ then s (event_of pick (observation_of (record_at body 0))))
-        (is-skip : skip ≡ cond (eqb pick 0) 12 0)
-        (seen-is : seen ≡ left_of (b - 1 + 1) (walked (service n) (length (take (length room - 2) (drop 2 room)) / 2) next (observations (take (length body - skip) (drop skip body)))))
-        (last-is : last ≡ room_after (b - 1 + 1) (walked (service n) (length (take (length room - 2) (drop 2 room)) / 2) next (observations (take (length body - skip) (drop skip body)))) (take (length room - 2) (drop 2 room))) where
+    module _ (left : b ≡ 0 → ⊥) (room_left : 2 ≤ length room) (pick skip : ℕ) (next : State) (seen : Seen) (last : List ℕ)
+        (is_pick : pick ≡ lowest 64 set)
+        (is_next : next ≡ then s (event_of pick (observation_of (record_at body 0))))
+        (is_skip : skip ≡ cond (eqb pick 0) 12 0)
+        (seen_is : seen ≡ left_of (b - 1 + 1) (walked (service n) (length (take (length room - 2) (drop 2 room)) / 2) next (observations (take (length body - skip) (drop skip body)))))
+        (last_is : last ≡ room_after (b - 1 + 1) (walked (service n) (length (take (length room - 2) (drop 2 room)) / 2) next (observations (take (length body - skip) (drop skip body)))) (take (length room - 2) (drop 2 room))) where
       the_child : walked (service n) (length (take (length room - 2) (drop 2 room)) / 2) next (observations (take (length body - skip) (drop skip body))) ≡ child
       unfolding child
       the_child =
-          rw (to_end room 2, to_end body skip, is-next)
-          (sym (ap (λ (x : ℕ). deeper n (length room / 2) s (slot x (observation_of (record_at body 0)) (observations (drop 12 body)))) (sym is-pick)
-          ∙ child_walk n pick skip s body room long room-left is-skip))
+          rw (to_end room 2, to_end body skip, is_next)
+          (sym (ap (λ (x : ℕ). deeper n (length room / 2) s (slot x (observation_of (record_at body 0)) (observations (drop 12 body)))) (sym is_pick)
+          ∙ child_walk n pick skip s body room long room_left is_skip))
 
       counted : b - 1 + 1 ≡ b
       counted = omega arith
 
       child_seen : seen ≡ left_of b child
-      child_seen = seen-is ∙ ap₂ left_of counted the_child
+      child_seen = seen_is ∙ ap₂ left_of counted the_child
 
       child_last : last ≡ room_after b child (drop 2 room)
-      child_last = last-is ∙ rw (counted, the_child, to_end room 2)
+      child_last = last_is ∙ rw (counted, the_child, to_end room 2)
 
       -- the whole room after the visit
       abbrev after_visit : List ℕ
@@ -140,7 +140,7 @@ module _ (n b set : ℕ) (s : State) (body room : List ℕ) where
           hand (Found l (k + 1)) _ (step_found n b l k (event_of p o) child rest c)
           (ap (λ (r : List ℕ). set' (set' r 0 kind) 1 tablet) put
           ∙ room_found n b l k (event_of p o) child rest kind tablet room
-          (ap (λ (x : ℕ). event_bytes (event_of x (observation_of (record_at body 0)))) (sym is-pick) ∙ two_bytes (event_of pick (observation_of (record_at body 0))) ∙ ap₂ (λ (x y : ℕ). x ∷ y ∷ []) (sym g) (sym h)) c room-left)
+          (ap (λ (x : ℕ). event_bytes (event_of x (observation_of (record_at body 0)))) (sym is_pick) ∙ two_bytes (event_of pick (observation_of (record_at body 0))) ∙ ap₂ (λ (x y : ℕ). x ∷ y ∷ []) (sym g) (sym h)) c room_left)
 
       pub others_tried : (l others : ℕ) (whole : Seen) (final : List ℕ) → seen ≡ Nothing l → others ≡ remove 64 set pick
           → Hands l (trying n s others body after_visit) after_visit whole final → Hands b (trying n s set body room) room whole final
@@ -148,7 +148,7 @@ module _ (n b set : ℕ) (s : State) (body room : List ℕ) where
       others_tried l others whole final e q h =
           let c = sym child_seen ∙ e in
           let r = same_room (subst Endless (sym e) tt) in
-          let w : trying n s others body after_visit ≡ rest = ap₂ (λ (x : ℕ) (y : List ℕ). trying n s x body y) (q ∙ ap (remove 64 set) is-pick) r in
+          let w : trying n s others body after_visit ≡ rest = ap₂ (λ (x : ℕ) (y : List ℕ). trying n s x body y) (q ∙ ap (remove 64 set) is_pick) r in
           hand whole final (step_none n b l (event_of p o) child rest c ∙ ap (left_of l) (sym w) ∙ sym h.0)
           (h.1 ∙ ap₂ (room_after l) w r ∙ sym (step_none_room n b l (event_of p o) child rest room c))
 

@@ -158,12 +158,12 @@ room_by b limit (stopped k) room h few = go (ltb k b)
 
 -- ---- the whole call
 
-module _ (n budget : ℕ) (body room : List ℕ) (writes-in : ℕ) (counted : writes-in ≡ writes (observations body)) where
+module _ (n budget : ℕ) (body room : List ℕ) (writes_in : ℕ) (counted : writes_in ≡ writes (observations body)) where
   abbrev obs : List Observation
   obs = observations body
 
   abbrev pub limit : ℕ
-  limit = 2 * (length body / 12 + n * writes-in)
+  limit = 2 * (length body / 12 + n * writes_in)
 
   is_depth : 2 * depth n obs ≡ limit
   unfolding depth
@@ -201,10 +201,10 @@ module _ (n budget : ℕ) (body room : List ℕ) (writes-in : ℕ) (counted : wr
         let d : length (take limit room) / 2 ≡ depth n obs = let l = length-take-le limit room fits in let q = is_depth in omega arith in
         let w : walked (service n) (length (take (limit - 0) room) / 2) (first_state n) obs ≡ walked (service n) (depth n obs) (first_state n) obs =
         ap (λ (x : ℕ). walked (service n) (length (take x room) / 2) (first_state n) obs) p ∙ ap (λ (x : ℕ). walked (service n) x (first_state n) obs) d in
-        let last-is : last ≡ room_after budget (walked (service n) (depth n obs) (first_state n) obs) (take limit room) = g ∙ rw (b, w, p) in
+        let last_is : last ≡ room_after budget (walked (service n) (depth n obs) (first_state n) obs) (take limit room) = g ∙ rw (b, w, p) in
         done (answer_by budget seen) (last ++ drop (limit - 0) room)
         (ap (answer_by budget) (e ∙ ap₂ left_of b w) ∙ told_by budget (walked (service n) (depth n obs) (first_state n) obs))
-        (ap₂ (λ (x : List ℕ) (y : ℕ). x ++ drop y room) last-is p
+        (ap₂ (λ (x : List ℕ) (y : ℕ). x ++ drop y room) last_is p
         ∙ room_by budget limit (walked (service n) (depth n obs) (first_state n) obs) room fits
         (λ k es q. let f = found_within (service n) (depth n obs) (first_state n) obs k es q in let i = is_depth in omega arith))
 

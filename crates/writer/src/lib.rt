@@ -93,7 +93,7 @@ fn decide(n: u32, v: u32, counts: &[u32], records: &[u8], room: usize) -> Writte
     first_bad(n as u8, v as u8, records, (bytes / 12) as u16, good)
 }
 
-// Copies bytes to the front of others, which are at least as many.
+// Copies bytes to the front of others. Where these are fewer, nothing is copied.
 fn copy_front(from: &[u8], to: &mut [u8])
     ensures { length from.now ≤ length to.old → to.new ≡ from.now ++ drop (length from.now) to.old }
 {

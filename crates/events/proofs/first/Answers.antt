@@ -1,6 +1,5 @@
 -- `events::first` meets its contract: the marks of all seats are the full set.
 -- Assumes nothing.
--- a bit within the width is not shifted out
 use mathlib.Core.Path.{◌≡◌, ◌∙◌}
 use Prim.Native.Nat.{ℕ, ◌*◌, ◌%◌, ◌^◌, ◌≤◌, ◌<◌}
 use native.Mathlib.Nat.{one-mul}
@@ -11,6 +10,7 @@ use Rattle.marks.specs.Sets.{full}
 use Rattle.model.specs.Model.{first_state, seats}
 use Rattle.events.proofs.first.Goals as goal
 
+-- a bit within the width is not shifted out
 one_shifted : (k : ℕ) → k < 8 → 1 * 2 ^ k % 256 ≡ 2 ^ k
 one_shifted k h = shl_exact 1 k 8 (lit< tt) (omega arith) ∙ one-mul (2 ^ k)
 

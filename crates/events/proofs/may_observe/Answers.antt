@@ -1,6 +1,5 @@
 -- `events::may_observe` meets its contract: each kind of observation has its row.
 -- Assumes nothing.
--- a failed STABILIZE never may
 use mathlib.Core.Bool.{false}
 use mathlib.Core.Path.{◌≡◌, refl}
 use Prim.Native.Nat.{ℕ}
@@ -10,6 +9,7 @@ use Rattle.model.specs.declared.Observation.TheVariants.{Failed}
 use Rattle.model.specs.declared.Event.TheVariants.{Observed}
 use Rattle.events.proofs.may_observe.Goals as goal
 
+-- a failed STABILIZE never may
 never : (n : ℕ) (s : State) → may n s (Observed Failed) ≡ false
 unfolding may
 never n s = refl

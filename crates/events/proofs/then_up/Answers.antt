@@ -6,18 +6,15 @@ use Rattle.events.proofs.then_up.Goals as goal
 
 pub returns-then-fresh-differs : goal.returns-then-fresh-differs
 returns-then-fresh-differs c =
-    let k = c in
-    rw (c.others_stale.ensures, c.remove8.ensures, c.seat_of.ensures, k.local_value-value.ensures)
-    (sym (won _ _ (wins_by _ _ _ _ _ k.marked-fresh.ensures k.local_value-value.ensures c.if-fresh-differs.true)))
+    rw (c.others_stale.ensures, c.remove8.ensures, c.seat_of.ensures, c.local_value-value.ensures)
+    (sym (won _ _ (wins_by _ _ _ _ _ c.marked-fresh.ensures c.local_value-value.ensures c.if-fresh-differs.true)))
 
 pub returns-then-fresh-differs-2 : goal.returns-then-fresh-differs-2
 returns-then-fresh-differs-2 c =
-    let k = c in
-    rw (c.add64.ensures, c.remove8.ensures, c.seat_of.ensures, k.local_value-value.ensures)
-    (sym (joined _ _ (wins_by _ _ _ _ _ k.marked-fresh.ensures k.local_value-value.ensures c.if-fresh-differs.false) (joins_by _ _ _ _ _ k.marked-fresh.ensures k.local_value-value.ensures c.if-fresh-differs-2.true)))
+    rw (c.add64.ensures, c.remove8.ensures, c.seat_of.ensures, c.local_value-value.ensures)
+    (sym (joined _ _ (wins_by _ _ _ _ _ c.marked-fresh.ensures c.local_value-value.ensures c.if-fresh-differs.false) (joins_by _ _ _ _ _ c.marked-fresh.ensures c.local_value-value.ensures c.if-fresh-differs-2.true)))
 
 pub returns : goal.returns
 returns c =
-    let k = c in
     rw (c.remove8.ensures, c.seat_of.ensures)
-    (sym (neither _ _ (wins_by _ _ _ _ _ k.marked-fresh.ensures k.local_value-value.ensures c.if-fresh-differs.false) (joins_by _ _ _ _ _ k.marked-fresh.ensures k.local_value-value.ensures c.if-fresh-differs-2.false)))
+    (sym (neither _ _ (wins_by _ _ _ _ _ c.marked-fresh.ensures c.local_value-value.ensures c.if-fresh-differs.false) (joins_by _ _ _ _ _ c.marked-fresh.ensures c.local_value-value.ensures c.if-fresh-differs-2.false)))

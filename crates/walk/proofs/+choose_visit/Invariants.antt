@@ -1,4 +1,5 @@
 -- With each visit the room is two bytes shorter, and with each further choice the set of choices is smaller.
+-- Assumes nothing.
 use Rattle.std.proofs.Common.{◌+◌, ◌*◌, ◌^◌, length}
 use Rattle.walk.proofs.+choose_visit.Given as goal
 

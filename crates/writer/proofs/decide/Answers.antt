@@ -1,6 +1,5 @@
 -- `writer::decide` meets its contract: its tests, in order, are those of the definition.
 -- Assumes nothing.
--- once nothing up to 6 is refused there are few bodies and few record bytes
 use mathlib.Core.Path.{sym, ◌∙◌}
 use native.Mathlib.Omega.{arith}
 use Rattle.writer.specs.Written.{write, rows_then_room, fitted}

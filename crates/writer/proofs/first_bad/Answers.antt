@@ -10,8 +10,8 @@ loop-left-init c = (omega arith, refl)
 
 pub returns-then-not-row_kept : goal.returns-then-not-row_kept
 returns-then-not-row_kept c =
-    let at-loop = c.loop-left in
-    sym (at-loop.invariant.1
+    let at_loop = c.loop-left in
+    sym (at_loop.invariant.1
     ∙ broken _ _ _ _ _ _ c.loop-left-test.true _ _ c.read_record.ensures c.row_kept.ensures c.if-not-row_kept.true-raw)
 
 pub loop-left-preserved : goal.loop-left-preserved

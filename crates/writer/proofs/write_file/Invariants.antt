@@ -1,8 +1,6 @@
 -- `writer::write_file` meets its contract: a refusal touches nothing, and where there is none the head, the entries one by
 -- one and the records make the file.
 -- Assumes nothing.
--- what is known once a length was decided on
--- after the loop the buffer is as long as it was
 use Prim.Native.Nat.{◌-◌}
 use lib.ListN.{length}
 use Rattle.writer.proofs.Buffer.{Entered}

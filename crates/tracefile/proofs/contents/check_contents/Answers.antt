@@ -14,16 +14,14 @@ loop-i-init c = (contents_opens _ _ c.byte_at-k.ensures c.if-file-at.false, omeg
 
 pub returns-then-number2-at : goal.returns-then-number2-at
 returns-then-number2-at c =
-    let k = c in
-    sym (k.loop-i.invariant.0 ∙ entries_bad _ _ _ _ c.loop-i-test.true
+    sym (c.loop-i.invariant.0 ∙ entries_bad _ _ _ _ c.loop-i-test.true
     (entry_by _ _ _ _ _ _ c.number2.ensures.0 c.number2-count.ensures.0 c.if-number2-at.true))
 
 pub loop-i-preserved : goal.loop-i-preserved
 loop-i-preserved c =
-    let k = c in
     let bad = entry_by _ _ _ _ _ _ c.number2.ensures.0 c.number2-count.ensures.0 c.if-number2-at.false in
     let count : c.number2-count.result ≤ 256 = few _ _ _ _ c.number2-count.ensures.0 bad in (
-      k.loop-i.invariant.0 ∙ entries_on _ _ _ _ _ c.loop-i-test.true c.number2-count.ensures.0 bad,
+      c.loop-i.invariant.0 ∙ entries_on _ _ _ _ _ c.loop-i-test.true c.number2-count.ensures.0 bad,
       omega arith,
       omega arith,
       omega arith,

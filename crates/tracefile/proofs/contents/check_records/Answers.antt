@@ -1,7 +1,6 @@
 -- `tracefile::contents::check_records` meets its contract: the bodies and their records are gone through as the definition
 -- does. The measures are what is left of each.
 -- Assumes nothing.
--- a flag is not both
 use mathlib.Core.Bool.{true, false}
 use mathlib.Core.Logic.{⊎_elim}
 use mathlib.Core.Path.{◌≡◌, refl, sym, ◌∙◌}
@@ -11,6 +10,7 @@ use borrow.Author.Tests.{not-true, not-false}
 use Rattle.tracefile.proofs.Loops.{records_open, bodies_on, bodies_end, kept_by, body_bad, body_on, body_end}
 use Rattle.tracefile.proofs.contents.check_records.Goals as goal
 
+-- a flag is not both
 never : (A : Type 0) → true ≡ false → A
 never A h = let z : ◌≡◌ {A = ℕ} 0 1 = cc in absurd (omega arith)
 
@@ -21,31 +21,29 @@ pub loop-left-init : goal.loop-left-init
 loop-left-init c = (bodies_on _ _ _ _ _ c.bodies-test.true c.number2-left.ensures.0, c.bodies.invariant.1, omega arith)
 
 pub loop-left-preserved : goal.loop-left-preserved
-loop-left-preserved c =
-    let k = c in
-    let o = k in (
-      k.loop-left.invariant.0 ∙ body_on _ _ _ _ c.loop-left-test.true
-          (kept_by _ _ _ _ _ _ _ o.byte_at-n.ensures o.byte_at-v.ensures c.read_record.ensures c.row_kept.ensures (not-false _ c.if-not-row_kept.false-raw)),
-      k.loop-left.invariant.1,
-      omega arith,
-    )
+loop-left-preserved c = (
+  c.loop-left.invariant.0 ∙ body_on _ _ _ _ c.loop-left-test.true
+      (kept_by _ _ _ _ _ _ _ c.byte_at-n.ensures c.byte_at-v.ensures c.read_record.ensures c.row_kept.ensures (not-false _ c.if-not-row_kept.false-raw)),
+  c.loop-left.invariant.1,
+  omega arith,
+)
 
 pub bodies-preserved : goal.bodies-preserved
 bodies-preserved c =
     let o = c in
-    (o.bodies.invariant.0 ∙ c.loop-left.invariant.0 ∙ body_end _ _ _ _ c.loop-left-test.false, c.loop-left.invariant.1, omega arith, omega arith, omega arith)
+    (c.bodies.invariant.0 ∙ c.loop-left.invariant.0 ∙ body_end _ _ _ _ c.loop-left-test.false, c.loop-left.invariant.1, omega arith, omega arith, omega arith)
 
 pub returns-then-bad : goal.returns-then-bad
 returns-then-bad c =
     let o = c in
-    ⊎_elim (λ w. never _ (sym c.if-bad.true ∙ w.bad-is ∙ o.bodies.invariant.1))
+    ⊎_elim (λ w. never _ (sym c.if-bad.true ∙ w.bad-is ∙ c.bodies.invariant.1))
     (λ w.
     rw w.at-is
-    (sym (o.bodies.invariant.0 ∙ w.loop-left.invariant.0 ∙ body_bad _ _ _ _ w.loop-left-test.true
-    (kept_by _ _ _ _ _ _ _ o.byte_at-n.ensures o.byte_at-v.ensures w.read_record.ensures w.row_kept.ensures (not-true _ w.if-not-row_kept.true-raw)))))
+    (sym (c.bodies.invariant.0 ∙ w.loop-left.invariant.0 ∙ body_bad _ _ _ _ w.loop-left-test.true
+    (kept_by _ _ _ _ _ _ _ c.byte_at-n.ensures c.byte_at-v.ensures w.read_record.ensures w.row_kept.ensures (not-true _ w.if-not-row_kept.true-raw)))))
     c.bodies-test.branch-raw
 
 pub returns : goal.returns
 returns c =
     let o = c in
-    ⊎_elim (λ w. sym (o.bodies.invariant.0 ∙ bodies_end _ _ _ _ w.bodies-test.false)) (λ w. never _ (sym w.bad-is ∙ c.if-bad.false)) c.bodies-test.branch-raw
+    ⊎_elim (λ w. sym (c.bodies.invariant.0 ∙ bodies_end _ _ _ _ w.bodies-test.false)) (λ w. never _ (sym w.bad-is ∙ c.if-bad.false)) c.bodies-test.branch-raw

@@ -1,7 +1,6 @@
 -- `tracefile::contents::check_records` meets its contract: the bodies and their records are gone through as the definition
 -- does. The measures are what is left of each.
 -- Assumes nothing.
--- a flag is not both
 use mathlib.Core.Bool.{false}
 use mathlib.Core.Path.{◌≡◌}
 use Prim.Native.Nat.{◌+◌, ◌-◌, ◌*◌, ◌≤◌}

@@ -1,9 +1,10 @@
 -- What is read lies within the room, and each read brings less of it to fill.
+-- Assumes nothing.
 use Rattle.std.proofs.Common.{length, ◌-◌, ◌≤◌}
-use Rattle.evenings.proofs.read_full.Given as goal
+use Rattle.cases.proofs.read_full.Given as goal
 
 abbrev pub invariant-loop-done : goal.invariant-loop-done
-invariant-loop-done l = l.done ≤ length l.room
+invariant-loop-done g l = l.done ≤ length l.room
 
 abbrev pub decreases-loop-done : goal.decreases-loop-done
-decreases-loop-done l = length l.initial.room - l.done
+decreases-loop-done g l = length l.initial.room - l.done
