@@ -1,7 +1,7 @@
 /* A small console: reads a trace file by name, asks for every trace in it, and says the answers in words.
  *
- * Build, after `rt staticlib console`:
- *   gcc -O2 -Iinclude -o target/console examples/console.c target/staticlib/libconsole.a
+ * Build, in the repository's root, after `rt lib` in crates/console and `mkdir -p target`:
+ *   gcc -O2 -Iinclude -o target/console examples/console.c crates/console/out/libconsole.a
  */
 #include "sklandupa.h"
 

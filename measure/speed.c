@@ -1,8 +1,8 @@
 /* The speed of the library beside a plain walk in C: the table of events and the ordered walk, written straight down, with the
  * state as a struct by value and the marks as bits. The plain walk checks nothing and takes good files only.
  *
- * Build and run, after `rt staticlib console`:
- *   gcc -O3 -Iinclude -o target/speed measure/speed.c target/staticlib/libconsole.a
+ * Build and run, in the repository's root, after `rt lib` in crates/console and `mkdir -p target`:
+ *   gcc -O3 -Iinclude -o target/speed measure/speed.c crates/console/out/libconsole.a
  *   target/speed cross/evenings/n*.trace
  *
  * Both walk the first trace of each file in turn, with a budget of 3,000,000 points, and have to visit as many points. The
