@@ -40,5 +40,5 @@ pub fn agrees(packed: &[u8]) -> bool {
         return false;
     }
     let body = cases::held(packed, case::EXPECTED);
-    check::same(tracefile::asked_body(file, trace), body)
+    tracefile::asked_body(file, trace) == body
 }
