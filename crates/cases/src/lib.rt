@@ -67,6 +67,7 @@ fn right(front: &[u8], i: usize) -> u8
 }
 
 // Whether bytes start with those at the front, and have the pattern in every byte after them.
+#[tactic(auto, using(crate::proofs::Packed::too_short, crate::proofs::Packed::all_stand))]
 pub fn stands(front: &[u8], bytes: &[u8]) -> bool
     ensures { result ≡ stands_in front.now bytes.now }
 {

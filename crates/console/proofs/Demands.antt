@@ -91,10 +91,10 @@ module _ (f : List ℕ) (t b : ℕ) (room area : List ℕ) (answer : ℕ) (room_
 
   -- an area is of 12 bytes or not
   by_area : (P : Type 0) → (length area ≡ 12 → P) → ((length area ≡ 12 → ⊥) → P) → P
-  by_area P of-twelve of_other = go (eqb (length area) 12) refl
+  by_area P of_twelve of_other = go (eqb (length area) 12) refl
     where
       go : (z : Bool) → eqb (length area) 12 ≡ z → P
-      go true e = of-twelve (eqb-true (length area) 12 e)
+      go true e = of_twelve (eqb-true (length area) 12 e)
       go false e = of_other (eqb-false (length area) 12 e)
 
   -- ---- demand 1

@@ -1,12 +1,12 @@
 -- The file in the buffer, piece by piece: the head, the entries one after the other, and the records.
 -- Assumes nothing.
-use mathlib.Core.List.{List, [], ◌∷◌, ◌++◌, append_assoc, append-nil}
+use mathlib.Core.List.{List, [], ◌∷◌, ◌++◌, append_assoc}
 use mathlib.Core.Path.{◌≡◌, refl, sym, ◌∙◌}
 use Prim.Native.Nat.{ℕ, ◌+◌, ◌*◌, ◌-◌, ◌/◌, ◌%◌, ◌≤◌, ◌<◌}
 use native.Mathlib.Numerals.{add-one, add-two, add-three}
 use native.Mathlib.Omega.{arith}
 use lib.ListN.{length, get_or, take, drop, set, length-append, length-set, drop_of_length-le, take-append-drop}
-use lib.Seq.{sets-eq, drop-cons, drop-set-lt, length-take-le, take_at, drop_at, take_all, drop-drop}
+use lib.Seq.{sets-eq, drop-cons, drop-set-lt, length-take-le, take_at, drop_at, drop-drop}
 use Rattle.tracefile.specs.File.{entry, record_size}
 use Rattle.writer.specs.Written.{sum, entries_of, file_of, file_size, wrote, buffer_after}
 
@@ -107,15 +107,11 @@ module _ (counts b₀ b : List ℕ) (at i : ℕ) (now : Entered counts b₀ b at
 -- ---- the records
 
 -- records copied into a list of two parts, from where the first of them ends
-copied_behind : (first rest records copied : List ℕ) (start : ℕ) → length first ≡ start
-    → copied
-    ≡ records
-    ++ drop (length records) (take (length (first ++ rest) - start) (drop start (first ++ rest)))
-    → take start (first ++ rest) ++ (copied ++ drop (length (first ++ rest) - start) (drop start (first ++ rest)))
-    ≡ first ++ (records ++ drop (length records) rest)
-copied_behind first rest records copied start e copy =
-    let left : length rest ≤ length (first ++ rest) - start = rw length-append (omega arith) in
-    rw (copy, take_at first rest start e, drop_at first rest start e, take_all (length (first ++ rest) - start) rest left, drop_of_length-le rest left, append-nil)
+copied_behind : (first rest records copied : List ℕ) (start last : ℕ) → length first ≡ start → last ≡ start + length records → copied ≡ records
+    → take start (first ++ rest) ++ (copied ++ drop (last - start) (drop start (first ++ rest))) ≡ first ++ (records ++ drop (length records) rest)
+copied_behind first rest records copied start last e l copy =
+    let size : last - start ≡ length records = omega arith in
+    rw (copy, take_at first rest start e, drop_at first rest start e, size) refl
 
 module _ (n v : ℕ) (counts records buffer : List ℕ) (size : ℕ) (whole : size ≡ file_size counts records) (room : size ≤ length buffer) where
   -- the head and the entries
@@ -132,15 +128,11 @@ module _ (n v : ℕ) (counts records buffer : List ℕ) (size : ℕ) (whole : si
       rw (take_four buffer 0 1 n v (length counts) (omega arith), drop_four buffer 0 1 n v (length counts) (entry (length counts)) (omega arith))
 
   -- the records, copied behind them, complete the file
-  pub finished : (b copied : List ℕ) → b ≡ with_entries counts (four buffer 0 1 n v (length counts))
-      → copied
-      ≡ records
-      ++ drop (length records) (take (length b - entry (length counts)) (drop (entry (length counts)) b))
-      → take (entry (length counts)) b ++ (copied ++ drop (length b - entry (length counts)) (drop (entry (length counts)) b))
+  pub finished : (b copied : List ℕ) → b ≡ with_entries counts (four buffer 0 1 n v (length counts)) → copied ≡ records
+      → take (entry (length counts)) b ++ (copied ++ drop (size - entry (length counts)) (drop (entry (length counts)) b))
       ≡ buffer_after (file_of n v counts records) buffer (wrote size)
   unfolding file_of buffer_after
   finished b copied stands copy =
-      let before = stands ∙ front_stands in
-      rw before
-      (copied_behind front (drop (entry (length counts)) buffer) records copied (entry (length counts)) length_front (rw before at copy)
+      rw (stands ∙ front_stands)
+      (copied_behind front (drop (entry (length counts)) buffer) records copied (entry (length counts)) size length_front whole copy
       ∙ rw (drop-drop, ← whole) (sym (append_assoc front records (drop size buffer))))

@@ -1,7 +1,7 @@
 // A trace file from records. It decides before it writes, so that a refusal leaves the whole buffer as it was.
 #![tactic(auto)]
 
-ghost use Rattle.std.specs.Prelude.{◌≡◌, ◌≤◌, ◌++◌, drop, cond, not, ◌||◌, ◌*◌, ltb, eqb, length};
+ghost use Rattle.std.specs.Prelude.{◌≡◌, cond, not, ◌||◌, ◌*◌, ltb, eqb, length};
 ghost use Rattle.tracefile.specs.File.{record_size};
 ghost use Rattle.writer.specs.Written.{refused, wrote, told, sum, over, bad_record, write, file_of, buffer_after};
 
@@ -93,15 +93,6 @@ fn decide(n: u32, v: u32, counts: &[u32], records: &[u8], room: usize) -> Writte
     first_bad(n as u8, v as u8, records, (bytes / 12) as u16, good)
 }
 
-// Copies bytes to the front of others. Where these are fewer, nothing is copied.
-fn copy_front(from: &[u8], to: &mut [u8])
-    ensures { length from.now ≤ length to.old → to.new ≡ from.now ++ drop (length from.now) to.old }
-{
-    if from.len() <= to.len() {
-        to[..from.len()].copy_from_slice(from);
-    }
-}
-
 // Writes the file of n tablets, v values, bodies of these counts and all their records, back to back.
 pub fn write_file(n: u32, v: u32, counts: &[u32], records: &[u8], buffer: &mut [u8]) -> Written
     ensures result { told result ≡ write n v counts.now records.now (length buffer.old) }
@@ -129,6 +120,6 @@ pub fn write_file(n: u32, v: u32, counts: &[u32], records: &[u8], buffer: &mut [
         at += 12 * count;
         i += 1;
     }
-    copy_front(records, &mut buffer[start..]);
+    buffer[start..length as usize].copy_from_slice(records);
     Written::Length(length)
 }

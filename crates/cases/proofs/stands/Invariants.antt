@@ -1,5 +1,4 @@
--- `cases::stands` meets its contract. The invariant: what is left of the bytes follows what is left of the front exactly where
--- all of them do. The measure is what is left.
+-- What is left of the bytes follows what is left of the front exactly where all of them do. The measure is what is left.
 -- Assumes nothing.
 use mathlib.Core.Path.{◌≡◌}
 use Prim.Native.Nat.{◌-◌}

@@ -1,5 +1,4 @@
--- `lines::put_events` meets its contract. The loop's invariant: whatever puts the events that are left puts all after the
--- first. The measure is what is left of the bytes.
+-- `lines::put_events` meets its contract: the first event is put, and then each with a space before it.
 -- Assumes nothing.
 use mathlib.Core.Path.{sym}
 use borrow.Author.Rules.{rules}

@@ -1,5 +1,4 @@
--- `lines::put_events` meets its contract. The loop's invariant: whatever puts the events that are left puts all after the
--- first. The measure is what is left of the bytes.
+-- Whatever puts the events that are left puts all after the first. The measure is what is left of the bytes.
 -- Assumes nothing.
 use Prim.Native.Nat.{◌-◌}
 use lib.ListN.{length}

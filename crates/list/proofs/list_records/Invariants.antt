@@ -1,4 +1,4 @@
--- `list::list_records` is safe and ends: each record that is given is 12 bytes long, so less is left.
+-- The line keeps its length. The measure is what is left of the body.
 -- Assumes nothing.
 use mathlib.Core.Path.{◌≡◌}
 use Prim.Native.Nat.{◌-◌}

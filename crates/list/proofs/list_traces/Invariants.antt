@@ -1,4 +1,4 @@
--- `list::list_traces` is safe and ends: one trace fewer is left each time.
+-- No trace past the last is listed. The measure is how many are left.
 -- Assumes nothing.
 use Prim.Native.Nat.{◌-◌, ◌≤◌}
 use Rattle.list.proofs.list_traces.Given as goal

@@ -1,4 +1,5 @@
--- `marks::remove64` meets its contract: below 64 the bit at i is put in and turned over, and past it nothing changes. Assumes nothing.
+-- `marks::remove64` meets its contract: below 64 the bit at i is put in and turned over, and past it nothing changes.
+-- Assumes nothing.
 use borrow.Author.Rules.{rules}
 use Rattle.marks.proofs.Laws.{remove_in, remove_out}
 use Rattle.marks.proofs.remove64.Goals as goal

@@ -1,4 +1,5 @@
--- `vectors::run` is safe and ends. A case has at least one byte, so there are at most as many cases as bytes passed, and at most as many differ. The measure is what is left of the bytes.
+-- A case has at least one byte, so there are at most as many cases as bytes passed, and at most as many differ. The measure
+-- is what is left of the bytes.
 -- Assumes nothing.
 use Prim.Native.Nat.{◌≤◌, ◌-◌}
 use lib.ListN.{length}

@@ -4,6 +4,7 @@
 use Prim.Native.Nat.{◌^◌}
 use mathlib.Core.Path.{◌∙◌}
 use native.Mathlib.Nat.{le_refl}
+use native.Mathlib.Omega.{arith}
 use lib.Dec.{eqb, lit<}
 use lib.ListN.{length-set}
 use Rattle.walk.proofs.Visits.{end_left, end_room, visit_left, visit_room}
@@ -20,11 +21,11 @@ choose-returns-then-choices-eq0 t c =
 
 pub choose-returns-then-left-eq0 : goal.choose-returns-then-left-eq0
 choose-returns-then-left-eq0 t c =
-    let both = budget_spent _ _ _ _ _ _ c.if-body-lt12.false c.ranges.choices.fits c.if-choices-eq0.false c.if-left-eq0.true in record { result = both.0; room = both.1 }
+    let both = budget_spent _ _ _ _ _ _ c.if-body-lt12.false c.ranges.choices.fits c.if-choices-eq0.false (omega arith) in record { result = both.0; room = both.1 }
 
 pub choose-returns-then-room-lt2 : goal.choose-returns-then-room-lt2
 choose-returns-then-room-lt2 t c =
-    let both = no_room _ _ _ _ _ _ c.if-body-lt12.false c.ranges.choices.fits c.if-choices-eq0.false c.if-left-eq0.false c.if-room-lt2.true in record { result = both.0; room = both.1 }
+    let both = no_room _ _ _ _ _ _ c.if-body-lt12.false c.ranges.choices.fits c.if-choices-eq0.false (omega arith) c.if-room-lt2.true in record { result = both.0; room = both.1 }
 
 pub choose-slice_bounds-visit-count : goal.choose-slice_bounds-visit-count
 choose-slice_bounds-visit-count t c =
@@ -68,7 +69,7 @@ choose-shape_of-room-then-others-eq0 t c =
 
 pub choose-returns-then-others-eq0 : goal.choose-returns-then-others-eq0
 choose-returns-then-others-eq0 t c =
-    let both = others_tried _ _ _ _ _ c.args.room.now c.if-body-lt12.false c.ranges.choices.fits c.if-choices-eq0.false c.if-left-eq0.false c.if-room-lt2.false _ _ _ _ _ c.lowest64-pick.ensures c.after-next.ensures c.used-skip.ensures c.visit.ensures.result c.visit.ensures.room _ _ _ _ c.in-Nothing.is c.remove64-others.ensures (no_choice _ _ _ _ _ _ c.if-others-eq0.true) in record { result = both.0; room = both.1 }
+    let both = others_tried _ _ _ _ _ c.args.room.now c.if-body-lt12.false c.ranges.choices.fits c.if-choices-eq0.false (omega arith) c.if-room-lt2.false _ _ _ _ _ c.lowest64-pick.ensures c.after-next.ensures c.used-skip.ensures c.visit.ensures.result c.visit.ensures.room _ _ _ _ c.in-Nothing.is c.remove64-others.ensures (no_choice _ _ _ _ _ _ c.if-others-eq0.true) in record { result = both.0; room = both.1 }
 
 pub choose-choose-requires : goal.choose-choose-requires
 choose-choose-requires t c =
@@ -80,7 +81,7 @@ choose-shape_of-room-in-Found t c =
 
 pub choose-returns-in-Found : goal.choose-returns-in-Found
 choose-returns-in-Found t c =
-    let both = end_found _ _ _ _ _ c.args.room.now c.if-body-lt12.false c.ranges.choices.fits c.if-choices-eq0.false c.if-left-eq0.false c.if-room-lt2.false _ _ _ _ _ c.lowest64-pick.ensures c.after-next.ensures c.used-skip.ensures c.visit.ensures.result c.visit.ensures.room _ _ _ _ c.in-Found.is c.kind_at.ensures c.tablet_at.ensures in record { result = both.0; room = both.1 }
+    let both = end_found _ _ _ _ _ c.args.room.now c.if-body-lt12.false c.ranges.choices.fits c.if-choices-eq0.false (omega arith) c.if-room-lt2.false _ _ _ _ _ c.lowest64-pick.ensures c.after-next.ensures c.used-skip.ensures c.visit.ensures.result c.visit.ensures.room _ _ _ _ c.in-Found.is c.kind_at.ensures c.tablet_at.ensures in record { result = both.0; room = both.1 }
 
 pub choose-shape_of-room-else-others-eq0 : goal.choose-shape_of-room-else-others-eq0
 choose-shape_of-room-else-others-eq0 t c =
@@ -88,7 +89,7 @@ choose-shape_of-room-else-others-eq0 t c =
 
 pub choose-returns-else-others-eq0 : goal.choose-returns-else-others-eq0
 choose-returns-else-others-eq0 t c =
-    let both = others_tried _ _ _ _ _ c.args.room.now c.if-body-lt12.false c.ranges.choices.fits c.if-choices-eq0.false c.if-left-eq0.false c.if-room-lt2.false _ _ _ _ _ c.lowest64-pick.ensures c.after-next.ensures c.used-skip.ensures c.visit.ensures.result c.visit.ensures.room _ _ _ _ c.in-Nothing.is c.remove64-others.ensures (c.choose.ensures.result, c.choose.ensures.room) in record { result = both.0; room = both.1 }
+    let both = others_tried _ _ _ _ _ c.args.room.now c.if-body-lt12.false c.ranges.choices.fits c.if-choices-eq0.false (omega arith) c.if-room-lt2.false _ _ _ _ _ c.lowest64-pick.ensures c.after-next.ensures c.used-skip.ensures c.visit.ensures.result c.visit.ensures.room _ _ _ _ c.in-Nothing.is c.remove64-others.ensures (c.choose.ensures.result, c.choose.ensures.room) in record { result = both.0; room = both.1 }
 
 pub choose-shape_of-room-in-Spent : goal.choose-shape_of-room-in-Spent
 choose-shape_of-room-in-Spent t c =
@@ -96,7 +97,7 @@ choose-shape_of-room-in-Spent t c =
 
 pub choose-returns-in-Spent : goal.choose-returns-in-Spent
 choose-returns-in-Spent t c =
-    let both = spent_on _ _ _ _ _ c.args.room.now c.if-body-lt12.false c.ranges.choices.fits c.if-choices-eq0.false c.if-left-eq0.false c.if-room-lt2.false _ _ _ _ _ c.lowest64-pick.ensures c.after-next.ensures c.used-skip.ensures c.visit.ensures.result c.visit.ensures.room c.in-Spent.is in record { result = both.0; room = both.1 }
+    let both = spent_on _ _ _ _ _ c.args.room.now c.if-body-lt12.false c.ranges.choices.fits c.if-choices-eq0.false (omega arith) c.if-room-lt2.false _ _ _ _ _ c.lowest64-pick.ensures c.after-next.ensures c.used-skip.ensures c.visit.ensures.result c.visit.ensures.room c.in-Spent.is in record { result = both.0; room = both.1 }
 
 pub choose-shape_of-room-in-Deep : goal.choose-shape_of-room-in-Deep
 choose-shape_of-room-in-Deep t c =
@@ -104,7 +105,7 @@ choose-shape_of-room-in-Deep t c =
 
 pub choose-returns-in-Deep : goal.choose-returns-in-Deep
 choose-returns-in-Deep t c =
-    let both = deep_on _ _ _ _ _ c.args.room.now c.if-body-lt12.false c.ranges.choices.fits c.if-choices-eq0.false c.if-left-eq0.false c.if-room-lt2.false _ _ _ _ _ c.lowest64-pick.ensures c.after-next.ensures c.used-skip.ensures c.visit.ensures.result c.visit.ensures.room c.in-Deep.is in record { result = both.0; room = both.1 }
+    let both = deep_on _ _ _ _ _ c.args.room.now c.if-body-lt12.false c.ranges.choices.fits c.if-choices-eq0.false (omega arith) c.if-room-lt2.false _ _ _ _ _ c.lowest64-pick.ensures c.after-next.ensures c.used-skip.ensures c.visit.ensures.result c.visit.ensures.room c.in-Deep.is in record { result = both.0; room = both.1 }
 
 pub visit-returns-then-body-lt12 : goal.visit-returns-then-body-lt12
 visit-returns-then-body-lt12 t c =

@@ -1,4 +1,5 @@
--- `writer::first_bad` meets its contract: the answer for all records is the answer for those left.
+-- `writer::first_bad` meets its contract: the first record that breaks its row decides, and where none is left the answer
+-- is the one for good records.
 -- Assumes nothing.
 use mathlib.Core.Path.{refl, sym, ◌∙◌}
 use native.Mathlib.Omega.{arith}
@@ -10,8 +11,7 @@ loop-left-init c = (omega arith, refl)
 
 pub returns-then-not-row_kept : goal.returns-then-not-row_kept
 returns-then-not-row_kept c =
-    let at_loop = c.loop-left in
-    sym (at_loop.invariant.1
+    sym (c.loop-left.invariant.1
     ∙ broken _ _ _ _ _ _ c.loop-left-test.true _ _ c.read_record.ensures c.row_kept.ensures c.if-not-row_kept.true-raw)
 
 pub loop-left-preserved : goal.loop-left-preserved

@@ -1,4 +1,4 @@
--- `writer::first_bad` meets its contract: the answer for all records is the answer for those left.
+-- The answer for all records is the answer for those left. The measure is how many are left.
 -- Assumes nothing.
 use mathlib.Core.Path.{◌≡◌}
 use Prim.Native.Nat.{◌+◌, ◌*◌}

@@ -1,4 +1,4 @@
--- `writer::miscounted` meets its contract: what is asked of all counts and all bytes is what is asked of those left.
+-- `writer::miscounted` meets its contract: each count is tested before its records are taken off the bytes.
 -- Assumes nothing.
 use mathlib.Core.Path.{refl, sym, ◌∙◌}
 use native.Mathlib.Omega.{arith}

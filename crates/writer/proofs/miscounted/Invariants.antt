@@ -1,4 +1,4 @@
--- `writer::miscounted` meets its contract: what is asked of all counts and all bytes is what is asked of those left.
+-- What is asked of all counts and all bytes is what is asked of those left. The measure is how many counts are left.
 -- Assumes nothing.
 use mathlib.Core.Path.{◌≡◌}
 use Prim.Native.Nat.{◌≤◌, ◌-◌}

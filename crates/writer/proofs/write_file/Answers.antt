@@ -36,26 +36,11 @@ overflow_cast-buffer-3 c = omega (arith, (decided_on _ _ _ _ _ _ _ c.in-Length.i
 pub bounds-buffer-3 : goal.bounds-buffer-3
 bounds-buffer-3 c = simp length-set (omega (arith, (decided_on _ _ _ _ _ _ _ c.in-Length.is c.decide-answer.ensures)))
 
-pub overflow_mul-start : goal.overflow_mul-start
-overflow_mul-start c = omega (arith, (decided_on _ _ _ _ _ _ _ c.in-Length.is c.decide-answer.ensures))
-
-pub overflow_add-start : goal.overflow_add-start
-overflow_add-start c = omega (arith, (decided_on _ _ _ _ _ _ _ c.in-Length.is c.decide-answer.ensures))
-
 pub overflow_cast-at : goal.overflow_cast-at
 overflow_cast-at c = omega (arith, (decided_on _ _ _ _ _ _ _ c.in-Length.is c.decide-answer.ensures))
 
 pub loop-i-init : goal.loop-i-init
 loop-i-init c = none_entered _ _ (decided_on _ _ _ _ _ _ _ c.in-Length.is c.decide-answer.ensures).bodies (simp length-set (omega (arith, (decided_on _ _ _ _ _ _ _ c.in-Length.is c.decide-answer.ensures)))) (omega (arith, (decided_on _ _ _ _ _ _ _ c.in-Length.is c.decide-answer.ensures)))
-
-pub bounds-buffer-entry-in-loop-i : goal.bounds-buffer-entry-in-loop-i
-bounds-buffer-entry-in-loop-i c = simp length-set (omega arith)
-
-pub bounds-buffer-entry-in-loop-i-2 : goal.bounds-buffer-entry-in-loop-i-2
-bounds-buffer-entry-in-loop-i-2 c = simp length-set (omega arith)
-
-pub bounds-buffer-entry-in-loop-i-3 : goal.bounds-buffer-entry-in-loop-i-3
-bounds-buffer-entry-in-loop-i-3 c = simp length-set (omega arith)
 
 pub overflow_mul-at : goal.overflow_mul-at
 overflow_mul-at c = omega (arith, next_below _ _ _ _ _ c.loop-i.invariant (omega arith))
@@ -66,11 +51,23 @@ overflow_add-at c = omega (arith, next_below _ _ _ _ _ c.loop-i.invariant (omega
 pub loop-i-preserved : goal.loop-i-preserved
 loop-i-preserved c = one_entered _ _ _ _ _ c.loop-i.invariant c.loop-i-test.true
 
+pub slice_bounds-copy_from_slice-count : goal.slice_bounds-copy_from_slice-count
+slice_bounds-copy_from_slice-count c = omega (arith, (decided_on _ _ _ _ _ _ _ c.in-Length.is c.decide-answer.ensures))
+
+pub slice_bounds-copy_from_slice-start : goal.slice_bounds-copy_from_slice-start
+slice_bounds-copy_from_slice-start c = omega (arith, (decided_on _ _ _ _ _ _ _ c.in-Length.is c.decide-answer.ensures))
+
+pub slice_bounds-copy_from_slice-end : goal.slice_bounds-copy_from_slice-end
+slice_bounds-copy_from_slice-end c = let kept : length c.loop-i.buffer ≡ length c.args.buffer.now = c.loop-i.invariant.kept ∙ simp length-set in omega (arith, (decided_on _ _ _ _ _ _ _ c.in-Length.is c.decide-answer.ensures), kept)
+
+pub copy_from_slice-requires : goal.copy_from_slice-requires
+copy_from_slice-requires c = let kept : length c.loop-i.buffer ≡ length c.args.buffer.now = c.loop-i.invariant.kept ∙ simp length-set in simp (length-take, length-drop) (omega (arith, (decided_on _ _ _ _ _ _ _ c.in-Length.is c.decide-answer.ensures), kept))
+
 pub returns : goal.returns
 returns c =
     let on = (decided_on _ _ _ _ _ _ _ c.in-Length.is c.decide-answer.ensures) in
     let kept : length c.loop-i.buffer ≡ length c.args.buffer.now = c.loop-i.invariant.kept ∙ simp length-set in
     record {
       result = on.due;
-      buffer = finished _ _ _ _ _ _ on.whole on.fits _ _ (all_entered _ _ _ _ _ c.loop-i.invariant c.loop-i-test.false) (c.copy_front.ensures (simp (length-take, length-drop) (omega (arith, on, kept))));
+      buffer = finished _ _ _ _ _ _ on.whole on.fits _ _ (all_entered _ _ _ _ _ c.loop-i.invariant c.loop-i-test.false) c.copy_from_slice.ensures.after;
     }

@@ -1,5 +1,4 @@
--- `writer::write_file` meets its contract: a refusal touches nothing, and where there is none the head, the entries one by
--- one and the records make the file.
+-- The head and the entries of the bodies passed stand in the buffer. The measure is how many bodies are left.
 -- Assumes nothing.
 use Prim.Native.Nat.{◌-◌}
 use lib.ListN.{length}

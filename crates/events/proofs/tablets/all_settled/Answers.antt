@@ -1,5 +1,5 @@
--- `events::tablets::all_settled` meets its contract. The invariant: the tablets passed are all fresh and clean. The measure
--- is what is left to pass.
+-- `events::tablets::all_settled` meets its contract: the first tablet that is not settled decides, and where none is left
+-- all are.
 -- Assumes nothing.
 use mathlib.Core.Bool.{not, not-not}
 use mathlib.Core.Path.{◌≡◌, refl, sym, ap, ◌∙◌}

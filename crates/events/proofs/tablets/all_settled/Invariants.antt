@@ -1,5 +1,4 @@
--- `events::tablets::all_settled` meets its contract. The invariant: the tablets passed are all fresh and clean. The measure
--- is what is left to pass.
+-- The tablets passed are all fresh and clean. The measure is what is left to pass.
 -- Assumes nothing.
 use mathlib.Core.Bool.{true}
 use mathlib.Core.Path.{◌≡◌}

@@ -1,5 +1,5 @@
--- `events::tablets::others_stale` meets its contract. The invariant: of the tablets passed only the kept one may be left.
--- The measure is what is left to pass.
+-- `events::tablets::others_stale` meets its contract: one tablet more is passed, and once all are, only the kept one may be
+-- left.
 -- Assumes nothing.
 use mathlib.Core.Logic.{⊎_elim}
 use mathlib.Core.Path.{ap, ◌∙◌}

@@ -1,5 +1,4 @@
--- `events::tablets::others_stale` meets its contract. The invariant: of the tablets passed only the kept one may be left.
--- The measure is what is left to pass.
+-- Of the tablets passed only the kept one may be left. The measure is what is left to pass.
 -- Assumes nothing.
 use Prim.Native.Nat.{◌-◌}
 use Rattle.events.proofs.Stale.{Staled}

@@ -1,5 +1,4 @@
--- `lines::notation::put_values` meets its contract. The invariant: whatever puts the values above the one that was looked at
--- completes the set. The measure is how many are left to look at.
+-- `lines::notation::put_values` meets its contract: the lowest value is put, and then each that is looked at and is there.
 -- Assumes nothing.
 use mathlib.Core.Path.{sym, ◌∙◌}
 use Rattle.lines.proofs.Values.{no_values, at_lowest, value_put, value_absent, values_put}

@@ -1,5 +1,4 @@
--- `lines::notation::put_values` meets its contract. The invariant: whatever puts the values above the one that was looked at
--- completes the set. The measure is how many are left to look at.
+-- Whatever puts the values above the one that was looked at completes the set. The measure is how many are left to look at.
 -- Assumes nothing.
 use Prim.Native.Nat.{◌-◌}
 use Rattle.lines.proofs.Values.{Reached}

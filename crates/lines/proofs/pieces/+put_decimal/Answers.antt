@@ -1,4 +1,4 @@
--- `lines::pieces::put_decimal` meets its contract: the digits of the tenth part, and then the last one. The measure is the number.
+-- `lines::pieces::put_decimal` meets its contract: the digits of the tenth part, and then the last one.
 -- Assumes nothing.
 use native.Mathlib.Omega.{arith}
 use Rattle.lines.proofs.Decimal.{one_digit, more_put}

@@ -1,5 +1,4 @@
--- `report::traces::put_traces` meets its contract. The loop's invariant: whatever puts the traces that are left puts all of
--- them. The measure is how many are left.
+-- `report::traces::put_traces` meets its contract: the lines of one trace more, behind those that stand.
 -- Assumes nothing.
 use borrow.Author.Rules.{rules}
 use Rattle.report.proofs.Listed.{at_first, one_more, all_put}

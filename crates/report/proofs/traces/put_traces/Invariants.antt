@@ -1,5 +1,4 @@
--- `report::traces::put_traces` meets its contract. The loop's invariant: whatever puts the traces that are left puts all of
--- them. The measure is how many are left.
+-- Whatever puts the traces that are left puts all of them. The measure is how many are left.
 -- Assumes nothing.
 use Prim.Native.Nat.{◌-◌}
 use Rattle.report.proofs.Listed.{Reached}

@@ -1,4 +1,4 @@
--- `tracefile::contents::check_contents` meets its contract: the entries are gone through as the definition does, with the expected offset. The measure is what is left of them.
+-- `tracefile::contents::check_contents` meets its contract: the entries are gone through as the definition does.
 -- Assumes nothing.
 use mathlib.Core.Path.{sym, ◌∙◌}
 use Prim.Native.Nat.{◌≤◌}

@@ -1,4 +1,4 @@
--- `tracefile::contents::check_contents` meets its contract: the entries are gone through as the definition does, with the expected offset. The measure is what is left of them.
+-- The contents are what the entries that are left say, with the expected offset. The measure is what is left of them.
 -- Assumes nothing.
 use mathlib.Core.Path.{◌≡◌}
 use Prim.Native.Nat.{◌+◌, ◌-◌, ◌*◌, ◌≤◌}

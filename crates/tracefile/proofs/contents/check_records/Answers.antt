@@ -1,5 +1,5 @@
 -- `tracefile::contents::check_records` meets its contract: the bodies and their records are gone through as the definition
--- does. The measures are what is left of each.
+-- does.
 -- Assumes nothing.
 use mathlib.Core.Bool.{true, false}
 use mathlib.Core.Logic.{⊎_elim}
@@ -30,12 +30,10 @@ loop-left-preserved c = (
 
 pub bodies-preserved : goal.bodies-preserved
 bodies-preserved c =
-    let o = c in
     (c.bodies.invariant.0 ∙ c.loop-left.invariant.0 ∙ body_end _ _ _ _ c.loop-left-test.false, c.loop-left.invariant.1, omega arith, omega arith, omega arith)
 
 pub returns-then-bad : goal.returns-then-bad
 returns-then-bad c =
-    let o = c in
     ⊎_elim (λ w. never _ (sym c.if-bad.true ∙ w.bad-is ∙ c.bodies.invariant.1))
     (λ w.
     rw w.at-is
@@ -45,5 +43,4 @@ returns-then-bad c =
 
 pub returns : goal.returns
 returns c =
-    let o = c in
     ⊎_elim (λ w. sym (c.bodies.invariant.0 ∙ bodies_end _ _ _ _ w.bodies-test.false)) (λ w. never _ (sym w.bad-is ∙ c.if-bad.false)) c.bodies-test.branch-raw

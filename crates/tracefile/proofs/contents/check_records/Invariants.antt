@@ -1,5 +1,5 @@
--- `tracefile::contents::check_records` meets its contract: the bodies and their records are gone through as the definition
--- does. The measures are what is left of each.
+-- The records of the file are what the bodies that are left, and the records that are left of one, say. The measures are
+-- what is left of each.
 -- Assumes nothing.
 use mathlib.Core.Bool.{false}
 use mathlib.Core.Path.{◌≡◌}

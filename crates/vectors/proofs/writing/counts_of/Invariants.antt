@@ -1,4 +1,4 @@
--- `vectors::writing::counts_of` is safe and ends, and its array keeps its length. The measure is what is left of the array.
+-- The array keeps its length. The measure is what is left of the array.
 -- Assumes nothing.
 use mathlib.Core.Path.{◌≡◌}
 use Prim.Native.Nat.{◌≤◌, ◌-◌}

@@ -1,4 +1,4 @@
--- `walk::rooms::count_writes` meets its contract: the count so far, and the writes of what is left. The measure is what is left.
+-- `walk::rooms::count_writes` meets its contract: one record more is counted.
 -- Assumes nothing.
 use mathlib.Core.Path.{sym}
 use Prim.Native.Nat.{◌≤◌}

@@ -1,4 +1,4 @@
--- `walk::rooms::count_writes` meets its contract: the count so far, and the writes of what is left. The measure is what is left.
+-- All writes are the count so far and the writes of what is left. The measure is what is left.
 -- Assumes nothing.
 use mathlib.Core.Path.{◌≡◌}
 use Prim.Native.Nat.{◌+◌, ◌-◌, ◌≤◌}
