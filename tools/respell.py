@@ -1,7 +1,6 @@
 #!/usr/bin/env python3
 """Brings this repository's own names to the spelling of today's Rattle: definitions, lemmas, fields and constructors in
-snake case, facts (names that begin with a capital) in camel case, ' for ′. Run once at the root, after the kit's port.py,
-with everything in the index.
+snake case, facts (names that begin with a capital) in camel case, ' for ′. Run once at the root, after the kit's port.py.
 
 usage: respell.py [--check] [ROOT]      --check: only says what it would turn
 
