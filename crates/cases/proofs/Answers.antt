@@ -1,5 +1,5 @@
 -- Any two results that the contract of a public function of this crate allows for one input are equal; a part is its bytes.
--- Not of `read_full`: what a file gives is no part of its input.
+-- Not of `read_full`: how much each read of a file brings is no part of its input, nor is what stands in the room past that.
 -- Assumes nothing.
 use mathlib.Core.Path.{◌≡◌, sym, ◌∙◌}
 use contract.Lifetimes.{Lfts}

@@ -3,7 +3,8 @@
 // starts in the case and its length. What is not there is 0, or empty. The file that they stand in is read here too.
 #![tactic(auto)]
 
-ghost use Rattle.std.specs.Prelude.{◌≡◌, ◌<◌, ◌≤◌, IfOk, get_or, length};
+ghost use Rattle.std.specs.Prelude.{◌≡◌, ◌<◌, ◌≤◌, IfOk, get_or, length, take};
+ghost use Rattle.std.specs.Io.KnownBytes.{Consumes, IsAtEnd};
 ghost use Rattle.cases.specs.Packed.{number_at, part_at, held_at, pattern, stands_in};
 
 use std::io;
@@ -84,10 +85,13 @@ pub fn stands(front: &[u8], bytes: &[u8]) -> bool
     true
 }
 
-// Reads until the room is full or there is no more, and says how many bytes came. A read that fails ends it.
-pub fn read_full(reader: &mut impl Read, room: &mut [u8]) -> io::Result<usize>
+// Reads until the room is full or there is no more, and says how many bytes came: they stand at the front, in the order in
+// which the reader had them. A read that fails ends it.
+pub fn read_full<R: Read>(reader: &mut R, room: &mut [u8]) -> io::Result<usize>
     ensures same_length { length room.new ≡ length room.old }
     ensures within { IfOk result (λ n. n ≤ length room.new) }
+    ensures front { IfOk result (λ n. Consumes (R.remaining reader.old) (R.remaining reader.new) (take n room.new)) }
+    ensures no_more { IfOk result (λ n. n < length room.new → IsAtEnd (R.remaining reader.new)) }
 {
     let mut done = 0;
     while done < room.len() {

@@ -1,10 +1,13 @@
--- What is read lies within the room, and each read brings less of it to fill.
+-- What has come lies within the room and stands at its front, and each read brings less of the room to fill.
 -- Assumes nothing.
-use Rattle.std.proofs.Common.{length, ◌-◌, ◌≤◌}
+use Rattle.std.proofs.Common.{◌≡◌, ◌-◌, ◌≤◌, length, take}
+use Rattle.std.specs.Io.KnownBytes.{Consumes}
 use Rattle.cases.proofs.read_full.Given as goal
 
 abbrev pub invariant-loop-done : goal.invariant-loop-done
-invariant-loop-done g l = l.done ≤ length l.room
+invariant-loop-done g l =
+    (length l.room ≡ length l.initial.room) × (l.done ≤ length l.room)
+    × Consumes (g.R.Read.remaining l.initial.reader) (g.R.Read.remaining l.reader) (take l.done l.room)
 
 abbrev pub decreases-loop-done : goal.decreases-loop-done
 decreases-loop-done g l = length l.initial.room - l.done
