@@ -1,3 +1,4 @@
 pub mod Walk
 pub mod Model
 pub mod Evenings
+pub mod Kinds
