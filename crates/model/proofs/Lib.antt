@@ -1,4 +1,6 @@
+pub mod Answers
 pub mod Budget
+pub mod Bytes
 pub mod Children
 pub mod Errors
 pub mod Evenings

@@ -5,6 +5,9 @@
 ghost use Rattle.std.specs.Prelude.{◌≡◌};
 ghost use Rattle.model.specs.Kinds.{kind_of, code_of};
 
+use std::error::Error;
+use std::fmt;
+
 // What the service and its tablets hold. Wide fields first: 24 bytes.
 #[derive(Clone, Copy, Debug, PartialEq, Eq)]
 pub struct State {
@@ -46,6 +49,14 @@ pub enum Kind {
 // A byte that stands for no kind.
 #[derive(Clone, Copy, Debug, PartialEq, Eq)]
 pub struct UnknownKind(pub u8);
+
+impl fmt::Display for UnknownKind {
+    fn fmt<W: fmt::Write>(&self, f: &mut fmt::Formatter<W>) -> fmt::Result {
+        write!(f, "no kind of event has byte {}", self.0)
+    }
+}
+
+impl Error for UnknownKind {}
 
 impl TryFrom<u8> for Kind {
     type Error = UnknownKind;
