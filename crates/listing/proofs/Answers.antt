@@ -5,8 +5,9 @@ use Prim.Native.Nat.{ℕ}
 use mathlib.Core.List.{List}
 use mathlib.Core.Path.{◌≡◌, sym, ap₂, ◌∙◌}
 use denote.Ref.{Bor}
+use Rattle.std.specs.Prelude.{Option}
 use Rattle.records.specs.Records.{next_record}
-use Rattle.records.specs.declared.Step.{Step}
+use Rattle.records.specs.declared.Record.{Record}
 use Rattle.listing.specs.Positions.{position}
 use Rattle.listing.specs.declared.Listing.{Listing}
 use Rattle.listing.proofs.position_after.Kinds as position_after_kinds
@@ -23,7 +24,7 @@ same_reader x y e g = ap₂ made_of e g
 start : (body : Bor (List ℕ)) (x y : Listing) → (x.body ≡ body) × (x.at ≡ 0) → (y.body ≡ body) × (y.at ≡ 0) → x ≡ y
 start body x y p q = same_reader x y (p.0 ∙ sym q.0) (p.1 ∙ sym q.1)
 
-next : (listing : Listing) (x y : Step) → x ≡ next_record listing.body.now listing.at → y ≡ next_record listing.body.now listing.at → x ≡ y
+next : (listing : Listing) (x y : Option Record × ℕ) → x ≡ next_record listing.body.now listing.at → y ≡ next_record listing.body.now listing.at → x ≡ y
 next listing x y p q = p ∙ sym q
 
 position_after : Single 1 position_after_kinds.ps position_after_kinds.r position_after_reads.Learnt
@@ -33,5 +34,5 @@ advance : (listing x y : Listing) → (x.body ≡ listing.body) × (x.at ≡ pos
     → (y.body ≡ listing.body) × (y.at ≡ position (next_record listing.body.now listing.at)) → x ≡ y
 advance listing x y p q = same_reader x y (p.0 ∙ sym q.0) (p.1 ∙ sym q.1)
 
-step_from : (body : List ℕ) (at : ℕ) (x y : Step) → x ≡ next_record body at → y ≡ next_record body at → x ≡ y
+step_from : (body : List ℕ) (at : ℕ) (x y : Option Record × ℕ) → x ≡ next_record body at → y ≡ next_record body at → x ≡ y
 step_from body at x y p q = p ∙ sym q

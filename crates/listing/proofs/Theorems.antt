@@ -7,6 +7,7 @@ use mathlib.Core.Bool.{Bool, true, false, cond}
 use mathlib.Core.List.{List, [], ◌∷◌, ◌++◌, append-nil}
 use mathlib.Core.Path.{◌≡◌, refl, sym, ap, ap₂, ◌∙◌}
 use denote.Ref.{Bor}
+use Rattle.std.specs.Prelude.{Option, Some, None}
 use lib.Dec.{leb}
 use lib.ListN.{length, drop, length-drop}
 use lib.Seq.{drop-drop}
@@ -14,21 +15,19 @@ use borrow.Author.Tests.{le-leb, lt-leb}
 use Rattle.model.specs.declared.Observation.{Observation}
 use Rattle.records.specs.Records.{record_at, next_record, observation_of, observed, observations}
 use Rattle.records.specs.declared.Record.{Record}
-use Rattle.records.specs.declared.Step.{Step}
-use Rattle.records.specs.declared.Step.TheVariants.{Next, End}
 use Rattle.records.proofs.Parts.{record_drop}
 use Rattle.listing.specs.Positions.{position, place, given_by, through}
 use Rattle.listing.specs.declared.Listing.{Listing}
 
 -- ---- one step
 
-whole_record : (body : List ℕ) (at : ℕ) → at + 12 ≤ length body → next_record body at ≡ Next (record_at body at) (at + 12)
+whole_record : (body : List ℕ) (at : ℕ) → at + 12 ≤ length body → next_record body at ≡ (Some (record_at body at), at + 12)
 unfolding next_record
-whole_record body at h = ap (λ t. cond t (Next (record_at body at) (at + 12)) (End at)) (le-leb (at + 12) (length body) h)
+whole_record body at h = ap (λ t. cond t (Some (record_at body at), at + 12) (None, at)) (le-leb (at + 12) (length body) h)
 
-none_left : (body : List ℕ) (at : ℕ) → length body < at + 12 → next_record body at ≡ End at
+none_left : (body : List ℕ) (at : ℕ) → length body < at + 12 → next_record body at ≡ (None, at)
 unfolding next_record
-none_left body at h = ap (λ t. cond t (Next (record_at body at) (at + 12)) (End at)) (lt-leb (at + 12) (length body) h)
+none_left body at h = ap (λ t. cond t (Some (record_at body at), at + 12) (None, at)) (lt-leb (at + 12) (length body) h)
 
 -- ---- as many steps as there are records
 
@@ -36,7 +35,7 @@ steps_on : (body : List ℕ) (steps at : ℕ) → at + 12 * steps ≤ length bod
 unfolding place
 steps_on body zero at h = omega arith
 steps_on body (suc steps) at h =
-    ap (λ (s : Step). place body (position s) steps) (whole_record body at (omega arith)) ∙ steps_on body steps (at + 12) (omega arith) ∙ omega arith
+    ap (λ (s : Option Record × ℕ). place body (position s) steps) (whole_record body at (omega arith)) ∙ steps_on body steps (at + 12) (omega arith) ∙ omega arith
 
 steps_give : (body : List ℕ) (steps at : ℕ) → at + 12 * steps ≤ length body → through body at steps ≡ observed steps (drop at body)
 unfolding through observed
@@ -44,7 +43,7 @@ steps_give body zero at h = refl
 steps_give body (suc steps) at h =
     let l = length-drop at body in
     let r : record_at body at ≡ record_at (drop at body) 0 = sym (record_drop body at 0 (omega arith) ∙ ap (record_at body) (add-zero at)) in
-    ap (λ (s : Step). given_by s (through body (position s) steps)) (whole_record body at (omega arith))
+    ap (λ (s : Option Record × ℕ). given_by s (through body (position s) steps)) (whole_record body at (omega arith))
     ∙ ap₂ (λ (x : Observation) (xs : List Observation). x ∷ xs) (ap observation_of r)
     (steps_give body steps (at + 12) (omega arith) ∙ ap (observed steps) (sym (drop-drop 12 at body)))
 
@@ -53,12 +52,12 @@ steps_give body (suc steps) at h =
 stays : (body : List ℕ) (steps at : ℕ) → length body < at + 12 → place body at steps ≡ at
 unfolding place
 stays body zero at h = refl
-stays body (suc steps) at h = ap (λ (s : Step). place body (position s) steps) (none_left body at h) ∙ stays body steps at h
+stays body (suc steps) at h = ap (λ (s : Option Record × ℕ). place body (position s) steps) (none_left body at h) ∙ stays body steps at h
 
 gives_none : (body : List ℕ) (steps at : ℕ) → length body < at + 12 → through body at steps ≡ []
 unfolding through
 gives_none body zero at h = refl
-gives_none body (suc steps) at h = ap (λ (s : Step). given_by s (through body (position s) steps)) (none_left body at h) ∙ gives_none body steps at h
+gives_none body (suc steps) at h = ap (λ (s : Option Record × ℕ). given_by s (through body (position s) steps)) (none_left body at h) ∙ gives_none body steps at h
 
 -- ---- some steps, and then more
 
@@ -73,9 +72,9 @@ place_add body zero more at = let e : zero + more ≡ more = omega arith in ap (
 place_add body (suc steps) more at =
     let e : suc steps + more ≡ suc (steps + more) = omega arith in ap (place body at) e ∙ place_add body steps more (position (next_record body at))
 
-given_on : (s : Step) (xs ys : List Observation) → given_by s (xs ++ ys) ≡ given_by s xs ++ ys
-given_on (Next r after) xs ys = refl
-given_on (End same) xs ys = refl
+given_on : (s : Option Record × ℕ) (xs ys : List Observation) → given_by s (xs ++ ys) ≡ given_by s xs ++ ys
+given_on (Some r, after) xs ys = refl
+given_on (None, same) xs ys = refl
 
 through_add : (body : List ℕ) (steps more at : ℕ) → through body at (steps + more) ≡ through body at steps ++ through body (place body at steps) more
 unfolding through place
@@ -100,7 +99,7 @@ unfolding observations
 all_in_order body = steps_give body (length body / 12) 0 (omega arith)
 
 -- "and then the end for ever": it stays where the records end, and no further step gives anything
-pub end_for_ever : (body : List ℕ) (more : ℕ) → next_record body (place body 0 (length body / 12 + more)) ≡ End (12 * (length body / 12))
+pub end_for_ever : (body : List ℕ) (more : ℕ) → next_record body (place body 0 (length body / 12 + more)) ≡ (None, 12 * (length body / 12))
 end_for_ever body more =
     let here : place body 0 (length body / 12 + more) ≡ records_end body =
     place_add body (length body / 12) more 0 ∙ ap (λ (at : ℕ). place body at more) (reaches_end body) ∙ stays body more (records_end body) (omega arith) in
@@ -129,10 +128,10 @@ stands_at readers body p (suc k) =
     )
 
 -- a record that is given is 12 bytes long
-pub moves_on : (body : List ℕ) (at after : ℕ) (r : Record) (s : Step) → s ≡ next_record body at → s ≡ Next r after → after ≡ at + 12
+pub moves_on : (body : List ℕ) (at after : ℕ) (r : Record) (s : Option Record × ℕ) → s ≡ next_record body at → s ≡ (Some r, after) → after ≡ at + 12
 unfolding next_record
 moves_on body at after r s p q = go (leb (at + 12) (length body)) (sym q ∙ p)
   where
-    go : (t : Bool) → Next r after ≡ cond t (Next (record_at body at) (at + 12)) (End at) → after ≡ at + 12
-    go true e = cc
-    go false e = let z : ◌≡◌ {A = ℕ} 0 1 = cc in absurd (omega arith)
+    go : (t : Bool) → ◌≡◌ {A = Option Record × ℕ} (Some r, after) (cond t (Some (record_at body at), at + 12) (None, at)) → after ≡ at + 12
+    go true e = ap (λ (t : Option Record × ℕ). t.1) e
+    go false e = let none : Some r ≡ None = ap (λ (t : Option Record × ℕ). t.0) e in let z : ◌≡◌ {A = ℕ} 0 1 = cc in absurd (omega arith)

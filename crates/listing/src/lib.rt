@@ -6,7 +6,7 @@ ghost use Rattle.std.specs.Prelude.{◌≡◌};
 ghost use Rattle.records.specs.Records.{next_record};
 ghost use Rattle.listing.specs.Positions.{position};
 
-use records::Step;
+use records::Record;
 
 #[derive(Clone, Copy)]
 pub struct Listing<'a> {
@@ -22,7 +22,7 @@ pub fn start<'a>(body: &'a [u8]) -> Listing<'a>
 }
 
 // The next record with the position after it, or the end with the position as it is.
-pub fn next<'a>(listing: Listing<'a>) -> Step
+pub fn next<'a>(listing: Listing<'a>) -> (Option<Record>, usize)
     ensures { result ≡ next_record listing.entry.body.now listing.entry.at }
 {
     records::next(listing.body, listing.at)
@@ -32,10 +32,7 @@ pub fn next<'a>(listing: Listing<'a>) -> Step
 pub fn position_after(body: &[u8], at: usize) -> usize
     ensures { result ≡ position (next_record body.now at) }
 {
-    match records::next(body, at) {
-        Step::Next(_, after) => after,
-        Step::End(same) => same,
-    }
+    records::next(body, at).1
 }
 
 // The reader after its next record; at the end it stays.
@@ -50,7 +47,7 @@ pub fn advance<'a>(listing: Listing<'a>) -> Listing<'a>
 }
 
 // What a reader that stands at a position of a body gives: for callers that hold the body and the position themselves.
-pub fn step_from(body: &[u8], at: usize) -> Step
+pub fn step_from(body: &[u8], at: usize) -> (Option<Record>, usize)
     ensures { result ≡ next_record body.now at }
 {
     next(Listing { body, at })

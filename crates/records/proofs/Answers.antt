@@ -6,8 +6,8 @@ use Rattle.records.proofs.read_record.Kinds as read_record_kinds
 use Rattle.records.proofs.read_record.Reads as read_record_reads
 use Rattle.records.proofs.next.Kinds as next_kinds
 use Rattle.records.proofs.next.Reads as next_reads
-use Rattle.records.proofs.row_kept.Kinds as row_kept_kinds
-use Rattle.records.proofs.row_kept.Reads as row_kept_reads
+use Rattle.records.proofs.Limits.keep.Kinds as keep_kinds
+use Rattle.records.proofs.Limits.keep.Reads as keep_reads
 use Rattle.records.proofs.observation.Kinds as observation_kinds
 use Rattle.records.proofs.observation.Reads as observation_reads
 use Rattle.marks.proofs.Single.{Single}
@@ -18,8 +18,8 @@ read_record κs a x y e f p q = p ∙ sym q
 next : Single 1 next_kinds.ps next_kinds.r next_reads.Learnt
 next κs a x y e f p q = p ∙ sym q
 
-row_kept : Single 0 row_kept_kinds.ps row_kept_kinds.r row_kept_reads.Learnt
-row_kept κs a x y e f p q = p ∙ sym q
+keep : Single 0 keep_kinds.ps keep_kinds.r keep_reads.Learnt
+keep κs a x y e f p q = p ∙ sym q
 
 observation : Single 0 observation_kinds.ps observation_kinds.r observation_reads.Learnt
 observation κs a x y e f p q = p ∙ sym q

@@ -1,11 +1,9 @@
 -- Records of 12 bytes: kind, tablet, new, seen, then an 8-byte set in which bit i stands for value i.
-use Rattle.std.specs.Prelude.{ℕ, zero, suc, ◌+◌, ◌/◌, ◌%◌, ◌^◌, Bool, cond, ◌&&◌, ◌||◌, List, [], ◌∷◌, leb, ltb, eqb, length, drop}
+use Rattle.std.specs.Prelude.{ℕ, zero, suc, ◌+◌, ◌/◌, ◌%◌, ◌^◌, Bool, cond, ◌&&◌, ◌||◌, List, [], ◌∷◌, leb, ltb, eqb, length, drop, Option, Some, None}
 use Rattle.model.specs.declared.Observation.{Observation}
 use Rattle.model.specs.declared.Observation.TheVariants.{Read, Write, Stabilize, Failed}
 use Rattle.records.specs.Bytes.{byte, number}
 use Rattle.records.specs.declared.Record.{Record}
-use Rattle.records.specs.declared.Step.{Step}
-use Rattle.records.specs.declared.Step.TheVariants.{Next, End}
 
 -- The five numbers of the record at a place. Where fewer than 12 bytes are left there is none: all five are 0.
 unfoldable pub record_at : List ℕ → ℕ → Record
@@ -44,10 +42,10 @@ unfoldable pub keeps_row : ℕ → ℕ → Record → Bool
 unfolding read_row write_row stabilize_row failed_row
 keeps_row n v r = read_row n v r || (write_row n v r || (stabilize_row v r || failed_row r))
 
--- One step of a listing: the next record and 12 bytes on, or with fewer than 12 bytes left the end, staying.
-unfoldable pub next_record : List ℕ → ℕ → Step
+-- One step of a listing: the next record and 12 bytes on, or with fewer than 12 bytes left no record, staying.
+unfoldable pub next_record : List ℕ → ℕ → Option Record × ℕ
 unfolding record_at
-next_record body at = cond (leb (at + 12) (length body)) (Next (record_at body at) (at + 12)) (End at)
+next_record body at = cond (leb (at + 12) (length body)) (Some (record_at body at), at + 12) (None, at)
 
 -- What a record says. One that breaks its row whatever n and v are says what never may happen.
 unfoldable pub observation_of : Record → Observation

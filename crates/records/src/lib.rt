@@ -7,7 +7,8 @@ ghost use Rattle.records.specs.Records.{record_at, read_row, write_row, stabiliz
 
 use model::Observation;
 
-#[derive(Clone, Copy)]
+// One record as its bytes have it. Its kind is a byte and no enum, since any byte at all can stand there.
+#[derive(Clone, Copy, Debug, PartialEq, Eq)]
 pub struct Record {
     pub set: u64,
     pub kind: u8,
@@ -16,11 +17,11 @@ pub struct Record {
     pub seen: u8,
 }
 
-// A step of a listing: the next record and the position after it, or the end with the position as it was.
-#[derive(Clone, Copy)]
-pub enum Step {
-    Next(Record, usize),
-    End(usize),
+// How many tablets and values a file speaks of.
+#[derive(Clone, Copy, Debug, PartialEq, Eq)]
+pub struct Limits {
+    pub tablets: u8,
+    pub values: u8,
 }
 
 // A byte as a wide number.
@@ -46,20 +47,19 @@ fn number8(file: &[u8], at: usize) -> u64
     wide(file[at]) + 256 * (wide(file[at + 1]) + 256 * lower)
 }
 
+// Whether 12 bytes are left from a position on.
+fn is_left(body: &[u8], at: usize) -> bool
+    ensures { result ≡ leb (at + 12) (length body.now) }
+{
+    12 <= body.len() && at <= body.len() - 12
+}
+
 // The record at a place, or all 0 where fewer than 12 bytes are left.
+#[tactic(auto, unfolding(crate::specs::Records::record_at))]
 pub fn read_record(file: &[u8], at: usize) -> Record
     ensures { result ≡ record_at file.now at }
 {
-    if file.len() < 12 {
-        return Record {
-            set: 0,
-            kind: 0,
-            tablet: 0,
-            new: 0,
-            seen: 0,
-        };
-    }
-    if file.len() - 12 < at {
+    if !is_left(file, at) {
         return Record {
             set: 0,
             kind: 0,
@@ -77,17 +77,17 @@ pub fn read_record(file: &[u8], at: usize) -> Record
     }
 }
 
-// A step of a listing, from any position at all.
-pub fn next(body: &[u8], at: usize) -> Step
+// A step of a listing, from any position at all: the next record, if there is one, and the position after it. At the end the
+// position stays.
+#[tactic(auto, unfolding(crate::specs::Records::next_record))]
+pub fn next(body: &[u8], at: usize) -> (Option<Record>, usize)
     ensures { result ≡ next_record body.now at }
 {
-    if body.len() < 12 {
-        return Step::End(at);
+    if is_left(body, at) {
+        (Some(read_record(body, at)), at + 12)
+    } else {
+        (None, at)
     }
-    if body.len() - 12 < at {
-        return Step::End(at);
-    }
-    Step::Next(read_record(body, at), at + 12)
 }
 
 // Whether no bit from v up is set.
@@ -97,42 +97,55 @@ fn below(v: u8, set: u64) -> bool
     if v < 64 { (set >> v) == 0 } else { true }
 }
 
-fn is_read(n: u8, v: u8, r: Record) -> bool
-    ensures { result ≡ read_row n v r }
-{
-    (r.kind == 1)
-        & (((1 <= r.tablet) & (r.tablet <= n)) & ((r.new == 0) & ((r.seen < v) & (r.set == 0))))
+impl Limits {
+    #[tactic(auto, unfolding(crate::specs::Records::read_row))]
+    fn is_read(self, record: Record) -> bool
+        ensures { result ≡ read_row self.tablets self.values «record» }
+    {
+        (record.kind == 1)
+            & (((1 <= record.tablet) & (record.tablet <= self.tablets))
+                & ((record.new == 0) & ((record.seen < self.values) & (record.set == 0))))
+    }
+
+    #[tactic(auto, unfolding(crate::specs::Records::write_row))]
+    fn is_write(self, record: Record) -> bool
+        ensures { result ≡ write_row self.tablets self.values «record» }
+    {
+        (record.kind == 2)
+            & (((1 <= record.tablet) & (record.tablet <= self.tablets))
+                & ((record.new < self.values) & ((record.seen < self.values) & (record.set == 0))))
+    }
+
+    #[tactic(auto, unfolding(crate::specs::Records::stabilize_row))]
+    fn is_stabilize(self, record: Record) -> bool
+        ensures { result ≡ stabilize_row self.values «record» }
+    {
+        let inside = below(self.values, record.set);
+        (record.kind == 3)
+            & ((record.tablet == 0)
+                & ((record.new == 0)
+                    & ((record.seen < self.values) & ((record.set % 2 == 0) & inside))))
+    }
+
+    // Whether a record keeps its row of the table.
+    #[tactic(auto, unfolding(crate::specs::Records::keeps_row))]
+    pub fn keep(self, record: Record) -> bool
+        ensures { result ≡ keeps_row self.tablets self.values «record» }
+    {
+        self.is_read(record)
+            | (self.is_write(record) | (self.is_stabilize(record) | is_failed(record)))
+    }
 }
 
-fn is_write(n: u8, v: u8, r: Record) -> bool
-    ensures { result ≡ write_row n v r }
-{
-    (r.kind == 2)
-        & (((1 <= r.tablet) & (r.tablet <= n)) & ((r.new < v) & ((r.seen < v) & (r.set == 0))))
-}
-
-fn is_stabilize(v: u8, r: Record) -> bool
-    ensures { result ≡ stabilize_row v r }
-{
-    let inside = below(v, r.set);
-    (r.kind == 3)
-        & ((r.tablet == 0) & ((r.new == 0) & ((r.seen < v) & ((r.set % 2 == 0) & inside))))
-}
-
+#[tactic(auto, unfolding(crate::specs::Records::failed_row))]
 fn is_failed(r: Record) -> bool
     ensures { result ≡ failed_row r }
 {
     (r.kind == 4) & ((r.tablet == 0) & ((r.new == 0) & ((r.seen == 0) & (r.set == 0))))
 }
 
-// Whether a record keeps its row of the table, for n tablets and v values.
-pub fn row_kept(n: u8, v: u8, r: Record) -> bool
-    ensures { result ≡ keeps_row n v r }
-{
-    is_read(n, v, r) | (is_write(n, v, r) | (is_stabilize(v, r) | is_failed(r)))
-}
-
 // What a record says.
+#[tactic(auto, unfolding(crate::specs::Records::observation_of))]
 pub fn observation(r: Record) -> Observation
     ensures { result ≡ observation_of r }
 {
