@@ -11,12 +11,10 @@ use lib.Dec.{ltb, eqb}
 use lib.ListN.{length, take, drop}
 use borrow.Author.Tests.{ltb-false, eqb-true, not-false}
 use Rattle.records.specs.Bytes.{byte, number}
-use Rattle.tracefile.specs.Refusals.{Answer, accepted, refused, refusal, told, and_then}
+use Rattle.tracefile.specs.Refusals.{Answer, accepted, refused, refusal, and_then}
 use Rattle.tracefile.specs.File.{tablets_in, values_in, bodies_in, outside, entry, offset_in, count_in, body_size, head, bad_entry, entries, contents, records, check, check_trace, part, asked}
 use Rattle.tracefile.specs.declared.Refusal.{Refusal}
 use Rattle.tracefile.specs.declared.Refusal.TheVariants.{Length, Edition, Tablets, Values, Bodies, Contents, BadRecord, Trace}
-use Rattle.tracefile.specs.declared.Checked.{Checked}
-use Rattle.tracefile.specs.declared.Checked.TheVariants.{Good, Refused}
 use Rattle.tracefile.proofs.Loops.{or_false}
 
 -- where two checks accept, so does each
@@ -155,12 +153,10 @@ no_part f i (Contents at) = refl
 no_part f i (BadRecord at) = refl
 no_part f i Trace = refl
 
-pub asked_nothing : (f : List ℕ) (t : ℕ) (x : Checked) (r : Refusal) → told x ≡ check_trace f t → x ≡ Refused r → [] ≡ asked f t
+-- where the file or the trace is refused, nothing is handed back
+pub asked_nothing : (f : List ℕ) (t : ℕ) (r : Refusal) → refusal r ≡ check_trace f t → asked f t ≡ []
 unfolding asked
-asked_nothing f t x r h e = sym (ap (part f (t - 1)) (sym h ∙ ap told e) ∙ no_part f (t - 1) r)
-
-pub is_accepted : (f : List ℕ) (t : ℕ) (x : Checked) → told x ≡ check_trace f t → x ≡ Good → check_trace f t ≡ accepted
-is_accepted f t x h e = sym h ∙ ap told e
+asked_nothing f t r h = ap (part f (t - 1)) (sym h) ∙ no_part f (t - 1) r
 
 pub asked_part : (f : List ℕ) (t : ℕ) → check_trace f t ≡ accepted → asked f t ≡ take (body_size f (t - 1)) (drop (offset_in f (t - 1)) f)
 unfolding asked part

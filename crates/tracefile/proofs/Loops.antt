@@ -2,7 +2,7 @@
 -- Assumes nothing.
 use mathlib.Core.Bool.{Bool, true, false, not, ◌||◌}
 use mathlib.Core.List.{List}
-use mathlib.Core.Path.{◌≡◌, refl, sym, ap, ◌∙◌}
+use mathlib.Core.Path.{◌≡◌, refl, ap}
 use Prim.Native.Nat.{ℕ, zero, suc, ◌+◌, ◌-◌, ◌*◌, ◌≤◌, ◌<◌}
 use native.Mathlib.Nat.{sub-zero}
 use native.Mathlib.Omega.{arith}
@@ -12,11 +12,9 @@ use borrow.Author.Tests.{ltb-false, lt-ltb, le-ltb}
 use Rattle.records.specs.Bytes.{byte, number}
 use Rattle.records.specs.Records.{record_at, keeps_row}
 use Rattle.records.specs.declared.Record.{Record}
-use Rattle.tracefile.specs.Refusals.{Answer, accepted, refused, refusal, told, and_then}
+use Rattle.tracefile.specs.Refusals.{Answer, accepted, refused, refusal, and_then}
 use Rattle.tracefile.specs.declared.Refusal.{Refusal}
 use Rattle.tracefile.specs.declared.Refusal.TheVariants.{Length, Edition, Tablets, Values, Bodies, Contents, BadRecord, Trace}
-use Rattle.tracefile.specs.declared.Checked.{Checked}
-use Rattle.tracefile.specs.declared.Checked.TheVariants.{Good, Refused}
 use Rattle.tracefile.specs.File.{tablets_in, values_in, entry, offset_in, count_in, bad_entry, entries, contents, in_body, in_bodies, records}
 
 pub or_false : (a b : Bool) → (a || b) ≡ false → (a ≡ false) × (b ≡ false)
@@ -113,8 +111,8 @@ records_open f k q = rw (← q, sub-zero)
 
 -- ---- one check after the other
 
--- a refusal stays
-pub stays : (r : Refusal) (next : Answer) → and_then (refusal r) next ≡ refusal r
+-- a refusal stays, whatever comes after it
+stays : (r : Refusal) (next : Answer) → and_then (refusal r) next ≡ refusal r
 stays Length next = refl
 stays Edition next = refl
 stays Tablets next = refl
@@ -125,8 +123,8 @@ stays (BadRecord at) next = refl
 stays Trace next = refl
 
 -- the first check refuses, or it passes
-pub refuses : (a next : Answer) (x : Checked) (r : Refusal) → told x ≡ a → x ≡ Refused r → refusal r ≡ and_then a next
-refuses a next x r h e = sym (stays r next) ∙ ap (λ (y : Answer). and_then y next) (ap told (sym e) ∙ h)
+pub refuses : (a next : Answer) (r : Refusal) → refusal r ≡ a → and_then a next ≡ refusal r
+refuses a next r h = rw (← h) (stays r next)
 
-pub passes : (a next : Answer) (x : Checked) → told x ≡ a → x ≡ Good → and_then a next ≡ next
-passes a next x h e = ap (λ (y : Answer). and_then y next) (sym h ∙ ap told e)
+pub passes : (a next : Answer) → accepted ≡ a → and_then a next ≡ next
+passes a next h = rw (← h)

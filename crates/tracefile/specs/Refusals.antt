@@ -1,9 +1,7 @@
 -- Document 01, 'Results and refusals': the number and the place of each refusal of a file.
-use Rattle.std.specs.Prelude.{ℕ}
+use Rattle.std.specs.Prelude.{ℕ, Result, Ok, Err}
 use Rattle.tracefile.specs.declared.Refusal.{Refusal}
 use Rattle.tracefile.specs.declared.Refusal.TheVariants.{Length, Edition, Tablets, Values, Bodies, Contents, BadRecord, Trace}
-use Rattle.tracefile.specs.declared.Checked.{Checked}
-use Rattle.tracefile.specs.declared.Checked.TheVariants.{Good, Refused}
 
 -- what a check comes to: accepted, or refused by a number at a place
 pub data Answer : Type 0 where
@@ -21,9 +19,9 @@ refusal (Contents at) = refused 6 at
 refusal (BadRecord at) = refused 7 at
 refusal Trace = refused 8 0
 
-abbrev pub told : Checked → Answer
-told Good = accepted
-told (Refused r) = refusal r
+abbrev pub told : Result (Unit {0}) Refusal → Answer
+told (Ok _) = accepted
+told (Err r) = refusal r
 
 -- one check after another: the first refusal counts
 abbrev pub and_then : Answer → Answer → Answer

@@ -4,8 +4,8 @@ ghost use Rattle.records.specs.Bytes.{byte, number};
 ghost use Rattle.tracefile.specs.Refusals.{told};
 ghost use Rattle.tracefile.specs.File.{head, contents, records};
 
-use crate::{Checked, Refusal};
-use records::{read_record, row_kept};
+use crate::Refusal;
+use records::{Limits, read_record};
 
 // The byte at a place, and 0 past the end.
 pub fn byte_at(file: &[u8], at: usize) -> u8
@@ -25,39 +25,39 @@ pub fn number2(file: &[u8], at: u32) -> u32
 }
 
 // Refusals 1 to 5.
-pub fn check_head(file: &[u8]) -> Checked
+pub fn check_head(file: &[u8]) -> Result<(), Refusal>
     ensures { told result ≡ head file.now }
 {
     if (file.len() < 4) | (65535 < file.len()) {
-        return Checked::Refused(Refusal::Length);
+        return Err(Refusal::Length);
     }
     if file[0] != 1 {
-        return Checked::Refused(Refusal::Edition);
+        return Err(Refusal::Edition);
     }
     let n = file[1];
     if (n < 1) | (8 < n) {
-        return Checked::Refused(Refusal::Tablets);
+        return Err(Refusal::Tablets);
     }
     let v = file[2];
     if (v < 1) | (64 < v) {
-        return Checked::Refused(Refusal::Values);
+        return Err(Refusal::Values);
     }
     let k = file[3];
     if (k < 1) | (16 < k) {
-        return Checked::Refused(Refusal::Bodies);
+        return Err(Refusal::Bodies);
     }
-    Checked::Good
+    Ok(())
 }
 
 // Refusal 6: each entry has the offset where the body before it ends, a count of at most 256 and a body within the file,
 // and the last body ends the file.
-pub fn check_contents(file: &[u8]) -> Checked
+pub fn check_contents(file: &[u8]) -> Result<(), Refusal>
     ensures { told result ≡ contents file.now }
 {
     let k = byte_at(file, 3) as u32;
     let mut at = 4 + 4 * k;
     if file.len() < at as usize {
-        return Checked::Refused(Refusal::Contents(file.len() as u32));
+        return Err(Refusal::Contents(file.len() as u32));
     }
     let mut i = 0u32;
     while i < k {
@@ -65,23 +65,27 @@ pub fn check_contents(file: &[u8]) -> Checked
         let count = number2(file, entry + 2);
         let next = at + 12 * count;
         if (number2(file, entry) != at) | ((256 < count) | (file.len() < next as usize)) {
-            return Checked::Refused(Refusal::Contents(entry));
+            return Err(Refusal::Contents(entry));
         }
         at = next;
         i += 1;
     }
     if (at as usize) < file.len() {
-        return Checked::Refused(Refusal::Contents(at));
+        return Err(Refusal::Contents(at));
     }
-    Checked::Good
+    Ok(())
 }
 
 // Refusal 7: the first bad record in file order, over all bodies.
-pub fn check_records(file: &[u8]) -> Checked
+pub fn check_records(file: &[u8]) -> Result<(), Refusal>
     ensures { told result ≡ records file.now }
 {
     let n = byte_at(file, 1);
     let v = byte_at(file, 2);
+    let limits = Limits {
+        tablets: n,
+        values: v,
+    };
     let k = byte_at(file, 3) as u32;
     let mut at = 4 + 4 * k;
     let mut bad = false;
@@ -89,7 +93,7 @@ pub fn check_records(file: &[u8]) -> Checked
     'bodies: while body < k {
         let mut left = number2(file, 4 + 4 * body + 2);
         while 0 < left {
-            if !row_kept(n, v, read_record(file, at as usize)) {
+            if !limits.keep(read_record(file, at as usize)) {
                 bad = true;
                 break 'bodies;
             }
@@ -99,7 +103,7 @@ pub fn check_records(file: &[u8]) -> Checked
         body += 1;
     }
     if bad {
-        return Checked::Refused(Refusal::BadRecord(at));
+        return Err(Refusal::BadRecord(at));
     }
-    Checked::Good
+    Ok(())
 }

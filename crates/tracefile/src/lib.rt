@@ -3,15 +3,15 @@
 
 mod contents;
 
-ghost use Rattle.std.specs.Prelude.{◌≡◌};
-ghost use Rattle.tracefile.specs.Refusals.{told, refused};
+ghost use Rattle.std.specs.Prelude.{◌≡◌, IfOk, IfErr};
+ghost use Rattle.tracefile.specs.Refusals.{told, accepted, refused};
 ghost use Rattle.tracefile.specs.Refusals.{refusal as refusal_of};
 ghost use Rattle.tracefile.specs.File.{check, check_trace, asked};
 
 use contents::{byte_at, check_contents, check_head, check_records, number2};
 
 // Why a file, or a trace number, is refused. A case that has no fixed place carries it.
-#[derive(Clone, Copy)]
+#[derive(Clone, Copy, Debug, PartialEq, Eq)]
 pub enum Refusal {
     Length,
     Edition,
@@ -23,92 +23,83 @@ pub enum Refusal {
     Trace,
 }
 
-#[derive(Clone, Copy)]
-pub enum Checked {
-    Good,
-    Refused(Refusal),
-}
-
 // A refusal by its number in the table, and its place.
-#[derive(Clone, Copy)]
+#[derive(Clone, Copy, Debug, PartialEq, Eq)]
 pub struct Numbered {
     pub number: u32,
     pub place: u32,
 }
 
-// The number and the place of a refusal.
-pub fn number_and_place(refusal: Refusal) -> Numbered
-    ensures { refused result.number result.place ≡ refusal_of refusal }
-{
-    match refusal {
-        Refusal::Length => Numbered {
-            number: 1,
-            place: 0,
-        },
-        Refusal::Edition => Numbered {
-            number: 2,
-            place: 0,
-        },
-        Refusal::Tablets => Numbered {
-            number: 3,
-            place: 1,
-        },
-        Refusal::Values => Numbered {
-            number: 4,
-            place: 2,
-        },
-        Refusal::Bodies => Numbered {
-            number: 5,
-            place: 3,
-        },
-        Refusal::Contents(place) => Numbered { number: 6, place },
-        Refusal::BadRecord(place) => Numbered { number: 7, place },
-        Refusal::Trace => Numbered {
-            number: 8,
-            place: 0,
-        },
+impl From<Refusal> for Numbered {
+    ghost from_gives = { λ refusal numbered. refused numbered.number numbered.place ≡ refusal_of refusal };
+
+    fn from(refusal: Refusal) -> Numbered {
+        match refusal {
+            Refusal::Length => Numbered {
+                number: 1,
+                place: 0,
+            },
+            Refusal::Edition => Numbered {
+                number: 2,
+                place: 0,
+            },
+            Refusal::Tablets => Numbered {
+                number: 3,
+                place: 1,
+            },
+            Refusal::Values => Numbered {
+                number: 4,
+                place: 2,
+            },
+            Refusal::Bodies => Numbered {
+                number: 5,
+                place: 3,
+            },
+            Refusal::Contents(place) => Numbered { number: 6, place },
+            Refusal::BadRecord(place) => Numbered { number: 7, place },
+            Refusal::Trace => Numbered {
+                number: 8,
+                place: 0,
+            },
+        }
     }
 }
 
 // Whether the whole file is good: refusals 1 to 7.
-pub fn check_file(file: &[u8]) -> Checked
+pub fn check_file(file: &[u8]) -> Result<(), Refusal>
     ensures { told result ≡ check file.now }
 {
-    match check_head(file) {
-        Checked::Refused(refusal) => return Checked::Refused(refusal),
-        Checked::Good => {}
-    }
-    match check_contents(file) {
-        Checked::Refused(refusal) => return Checked::Refused(refusal),
-        Checked::Good => {}
-    }
+    check_head(file)?;
+    check_contents(file)?;
     check_records(file)
 }
 
 // Whether the whole file is good and has a trace of this number: refusals 1 to 8.
-pub fn check_asked(file: &[u8], trace: u32) -> Checked
+pub fn check_asked(file: &[u8], trace: u32) -> Result<(), Refusal>
     ensures { told result ≡ check_trace file.now trace }
 {
-    match check_file(file) {
-        Checked::Refused(refusal) => return Checked::Refused(refusal),
-        Checked::Good => {}
-    }
+    check_file(file)?;
     let k = byte_at(file, 3) as u32;
     if (trace < 1) | (k < trace) {
-        return Checked::Refused(Refusal::Trace);
+        return Err(Refusal::Trace);
     }
-    Checked::Good
+    Ok(())
+}
+
+// The body of the asked trace, as a part of the file, or why there is none: refusals 1 to 8.
+pub fn body_of(file: &[u8], trace: u32) -> Result<&[u8], Refusal>
+    ensures body { IfOk result (λ body. (check_trace file.now trace ≡ accepted) × (body.now ≡ asked file.now trace)) }
+    ensures refusal { IfErr result (λ refusal. refusal_of refusal ≡ check_trace file.now trace) }
+{
+    check_asked(file, trace)?;
+    let start = number2(file, 4 * trace) as usize;
+    let end = start + 12 * (number2(file, 4 * trace + 2) as usize);
+    Ok(&file[start..end])
 }
 
 // The body of the asked trace, as a part of the file; empty where 1 to 8 apply.
 pub fn asked_body(file: &[u8], trace: u32) -> &[u8]
     ensures { result.now ≡ asked file.now trace }
 {
-    match check_asked(file, trace) {
-        Checked::Refused(_) => return &file[0..0],
-        Checked::Good => {}
-    }
-    let start = number2(file, 4 * trace) as usize;
-    let end = start + 12 * (number2(file, 4 * trace + 2) as usize);
-    &file[start..end]
+    body_of(file, trace).unwrap_or(&file[..0])
 }

@@ -1,23 +1,22 @@
--- `tracefile::asked_body` meets its contract: the part is empty, or within the file.
+-- `tracefile::asked_body` meets its contract: where there is no body the part is empty.
 -- Assumes nothing.
-use native.Mathlib.Omega.{arith}
-use Rattle.tracefile.proofs.Good.{there, asked_nothing, is_accepted, placed}
+use mathlib.Core.List.{List, []}
+use mathlib.Core.Path.{◌≡◌, refl, sym, ◌∙◌}
+use Prim.Native.Nat.{ℕ}
+use Rattle.std.proofs.Common.{Result, Ok, Err, Bor, IfOk, IfErr}
+use Rattle.std.specs.Result.{result_unwrap_or}
+use Rattle.tracefile.specs.Refusals.{accepted, refusal}
+use Rattle.tracefile.specs.declared.Refusal.{Refusal}
+use Rattle.tracefile.specs.File.{check_trace, asked}
+use Rattle.tracefile.proofs.Good.{asked_nothing}
 use Rattle.tracefile.proofs.asked_body.Goals as goal
 
-pub returns-in-Refused : goal.returns-in-Refused
-returns-in-Refused c = asked_nothing _ _ _ _ c.check_asked.ensures c.in-Refused.is
-
-pub overflow_mul-trace : goal.overflow_mul-trace
-overflow_mul-trace c = let t = there _ _ (is_accepted _ _ _ c.check_asked.ensures c.in-Good.is) in omega arith
-
-pub overflow_mul-trace-2 : goal.overflow_mul-trace-2
-overflow_mul-trace-2 c = let t = there _ _ (is_accepted _ _ _ c.check_asked.ensures c.in-Good.is) in omega arith
-
-pub overflow_add-trace : goal.overflow_add-trace
-overflow_add-trace c = let t = there _ _ (is_accepted _ _ _ c.check_asked.ensures c.in-Good.is) in omega arith
-
-pub slice_bounds-result-end-2 : goal.slice_bounds-result-end-2
-slice_bounds-result-end-2 c = (placed _ _ _ _ (is_accepted _ _ _ c.check_asked.ensures c.in-Good.is) c.number2-start.ensures.0 c.number2.ensures.0).0
+-- the body, or the empty part
+body_or_empty : (f : List ℕ) (t : ℕ) (r : Result (Bor (List ℕ)) Refusal) (empty : Bor (List ℕ)) → empty.now ≡ []
+    → IfOk r (λ body. (check_trace f t ≡ accepted) × (body.now ≡ asked f t)) → IfErr r (λ e. refusal e ≡ check_trace f t)
+    → (result_unwrap_or r empty).now ≡ asked f t
+body_or_empty f t (Ok body) empty e h g = h.1
+body_or_empty f t (Err r) empty e h g = e ∙ sym (asked_nothing f t r g)
 
 pub returns : goal.returns
-returns c = (placed _ _ _ _ (is_accepted _ _ _ c.check_asked.ensures c.in-Good.is) c.number2-start.ensures.0 c.number2.ensures.0).1
+returns c = rw c.unwrap_or.ensures (body_or_empty _ _ c.body_of.result _ refl c.body_of.ensures.body c.body_of.ensures.refusal)

@@ -23,7 +23,7 @@ loop-left-init c = (bodies_on _ _ _ _ _ c.bodies-test.true c.number2-left.ensure
 pub loop-left-preserved : goal.loop-left-preserved
 loop-left-preserved c = (
   c.loop-left.invariant.0 ∙ body_on _ _ _ _ c.loop-left-test.true
-      (kept_by _ _ _ _ _ _ _ c.byte_at-n.ensures c.byte_at-v.ensures c.read_record.ensures c.row_kept.ensures (not-false _ c.if-not-row_kept.false-raw)),
+      (kept_by _ _ _ _ _ _ _ c.byte_at-n.ensures c.byte_at-v.ensures c.read_record.ensures c.keep.ensures (not-false _ c.if-not-keep.false-raw)),
   c.loop-left.invariant.1,
   omega arith,
 )
@@ -38,7 +38,7 @@ returns-then-bad c =
     (λ w.
     rw w.at-is
     (sym (c.bodies.invariant.0 ∙ w.loop-left.invariant.0 ∙ body_bad _ _ _ _ w.loop-left-test.true
-    (kept_by _ _ _ _ _ _ _ c.byte_at-n.ensures c.byte_at-v.ensures w.read_record.ensures w.row_kept.ensures (not-true _ w.if-not-row_kept.true-raw)))))
+    (kept_by _ _ _ _ _ _ _ c.byte_at-n.ensures c.byte_at-v.ensures w.read_record.ensures w.keep.ensures (not-true _ w.if-not-keep.true-raw)))))
     c.bodies-test.branch-raw
 
 pub returns : goal.returns
