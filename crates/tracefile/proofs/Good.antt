@@ -2,7 +2,7 @@
 -- Assumes nothing.
 use mathlib.Core.Bool.{Bool, true, false, cond, not}
 use mathlib.Core.List.{List, []}
-use mathlib.Core.Path.{◌≡◌, refl, sym, ap, ap₂, ◌∙◌, subst}
+use mathlib.Core.Path.{◌≡◌, refl, sym, ap, ◌∙◌, subst}
 use Prim.Native.Nat.{ℕ, zero, suc, ◌+◌, ◌-◌, ◌*◌, ◌≤◌, ◌<◌}
 use native.Mathlib.Nat.{add-sub_cancel_left}
 use native.Mathlib.Decide.{ℕ_discrete}
@@ -162,15 +162,24 @@ pub asked_part : (f : List ℕ) (t : ℕ) → check_trace f t ≡ accepted → a
 unfolding asked part
 asked_part f t h = ap (part f (t - 1)) h
 
--- entry t - 1 of the contents stands at byte 4 t: what the code reads there is the part
-pub placed : (f : List ℕ) (t start count : ℕ) → check_trace f t ≡ accepted → start ≡ number f (4 * t) 2 → count ≡ number f (4 * t + 2) 2
-    → (start + 12 * count ≤ length f) × (take (start + 12 * count - start) (drop start f) ≡ asked f t)
-unfolding offset_in body_size
-placed f t start count h p q =
-    let r = there f t h in
+-- entry t - 1 of the contents stands at byte 4 t: what is read there places the part
+entry_of : (f : List ℕ) (t : ℕ) → There f t → (number f (4 * t) 2 ≡ offset_in f (t - 1)) × (number f (4 * t + 2) 2 ≡ count_in f (t - 1))
+unfolding offset_in count_in
+entry_of f t r =
     let e : 4 * t ≡ entry (t - 1) = omega (arith, r.from_one) in
-    let o : start ≡ offset_in f (t - 1) = p ∙ ap (λ (x : ℕ). number f x 2) e in
-    let n : count ≡ count_in f (t - 1) = q ∙ ap (λ (x : ℕ). number f (x + 2) 2) e in (
-      rw (o, n) r.within,
-      ap₂ (λ (x y : ℕ). take x (drop y f)) (add-sub_cancel_left start (12 * count) ∙ ap (λ (x : ℕ). 12 * x) n) o ∙ sym (asked_part f t h),
-    )
+    (ap (λ (x : ℕ). number f x 2) e, ap (λ (x : ℕ). number f (x + 2) 2) e)
+
+pub placed_within : (f : List ℕ) (t : ℕ) → accepted ≡ check_trace f t → number f (4 * t) 2 + 12 * number f (4 * t + 2) 2 ≤ length f
+unfolding body_size
+placed_within f t h =
+    let r = there f t (sym h) in
+    let e = entry_of f t r in
+    rw (e.0, e.1) r.within
+
+pub placed_part : (f : List ℕ) (t : ℕ) → accepted ≡ check_trace f t → asked f t ≡ take (12 * number f (4 * t + 2) 2) (drop (number f (4 * t) 2) f)
+unfolding body_size
+placed_part f t h =
+    let e = entry_of f t (there f t (sym h)) in
+    rw (e.0, e.1) (asked_part f t (sym h))
+
+pub ruleset placed = (placed_within, placed_part, add-sub_cancel_left)

@@ -8,7 +8,7 @@ ghost use Rattle.tracefile.specs.Refusals.{told, accepted, refused};
 ghost use Rattle.tracefile.specs.Refusals.{refusal as refusal_of};
 ghost use Rattle.tracefile.specs.File.{check, check_trace, asked};
 
-use contents::{byte_at, check_contents, check_head, check_records, number2};
+use contents::{Head, check_contents, check_head, check_records, number2};
 
 // Why a file, or a trace number, is refused. A case that has no fixed place carries it.
 #[derive(Clone, Copy, Debug, PartialEq, Eq)]
@@ -66,6 +66,7 @@ impl From<Refusal> for Numbered {
 }
 
 // Whether the whole file is good: refusals 1 to 7.
+#[tactic(auto, using(crate::proofs::Loops::first_refusal), unfolding(crate::specs::File::check))]
 pub fn check_file(file: &[u8]) -> Result<(), Refusal>
     ensures { told result ≡ check file.now }
 {
@@ -75,26 +76,29 @@ pub fn check_file(file: &[u8]) -> Result<(), Refusal>
 }
 
 // Whether the whole file is good and has a trace of this number: refusals 1 to 8.
+#[tactic(auto, using(crate::proofs::Loops::first_refusal), unfolding(crate::specs::File::check_trace))]
 pub fn check_asked(file: &[u8], trace: u32) -> Result<(), Refusal>
     ensures { told result ≡ check_trace file.now trace }
 {
     check_file(file)?;
-    let k = byte_at(file, 3) as u32;
-    if (trace < 1) | (k < trace) {
+    let bodies = u32::from(Head::of(file).bodies);
+    if (trace < 1) | (bodies < trace) {
         return Err(Refusal::Trace);
     }
     Ok(())
 }
 
 // The body of the asked trace, as a part of the file, or why there is none: refusals 1 to 8.
+#[tactic(auto, using(crate::proofs::Good::placed))]
 pub fn body_of(file: &[u8], trace: u32) -> Result<&[u8], Refusal>
     ensures body { IfOk result (λ body. (check_trace file.now trace ≡ accepted) × (body.now ≡ asked file.now trace)) }
     ensures refusal { IfErr result (λ refusal. refusal_of refusal ≡ check_trace file.now trace) }
 {
     check_asked(file, trace)?;
-    let start = number2(file, 4 * trace) as usize;
-    let end = start + 12 * (number2(file, 4 * trace + 2) as usize);
-    Ok(&file[start..end])
+    let entry = 4 * trace;
+    let start = usize::from(number2(file, entry));
+    let count = usize::from(number2(file, entry + 2));
+    Ok(&file[start..start + 12 * count])
 }
 
 // The body of the asked trace, as a part of the file; empty where 1 to 8 apply.

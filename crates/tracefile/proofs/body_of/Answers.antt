@@ -2,20 +2,11 @@
 -- Assumes nothing.
 use mathlib.Core.Path.{sym}
 use native.Mathlib.Omega.{arith}
-use Rattle.tracefile.proofs.Good.{there, placed}
+use Rattle.tracefile.proofs.Good.{there}
 use Rattle.tracefile.proofs.body_of.Goals as goal
 
-pub overflow_mul-trace : goal.overflow_mul-trace
-overflow_mul-trace c = let t = there _ _ (sym c.in_ok-check_asked.ensures) in omega arith
+pub overflow_mul-entry : goal.overflow_mul-entry
+overflow_mul-entry c = let t = there _ _ (sym c.in_ok-check_asked.ensures) in omega arith
 
-pub overflow_mul-trace-2 : goal.overflow_mul-trace-2
-overflow_mul-trace-2 c = let t = there _ _ (sym c.in_ok-check_asked.ensures) in omega arith
-
-pub overflow_add-trace : goal.overflow_add-trace
-overflow_add-trace c = let t = there _ _ (sym c.in_ok-check_asked.ensures) in omega arith
-
-pub slice_bounds-result-end : goal.slice_bounds-result-end
-slice_bounds-result-end c = (placed _ _ _ _ (sym c.in_ok-check_asked.ensures) c.number2-start.ensures.0 c.number2.ensures.0).0
-
-pub returns-clause-body : goal.returns-clause-body
-returns-clause-body c = (sym c.in_ok-check_asked.ensures, (placed _ _ _ _ (sym c.in_ok-check_asked.ensures) c.number2-start.ensures.0 c.number2.ensures.0).1)
+pub overflow_add-entry : goal.overflow_add-entry
+overflow_add-entry c = let t = there _ _ (sym c.in_ok-check_asked.ensures) in omega arith

@@ -1,8 +1,0 @@
--- `tracefile::contents::byte_at` meets its contract: past the end there is 0.
--- Assumes nothing.
-use mathlib.Core.Path.{sym}
-use lib.ListN.{get_or-eq_default}
-use Rattle.tracefile.proofs.contents.byte_at.Goals as goal
-
-pub returns-else-at-file : goal.returns-else-at-file
-returns-else-at-file c = sym (get_or-eq_default c.args.file.now 0 c.if-at-file.false)
