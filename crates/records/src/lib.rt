@@ -1,14 +1,13 @@
 // One record: 12 bytes, read as five numbers; whether it keeps its row of the table of records; and what it says.
 #![tactic(auto)]
 
-ghost use Rattle.std.specs.Prelude.{◌≡◌, cond, ◌+◌, ◌<◌, ◌^◌, leb, ltb, length};
-ghost use Rattle.records.specs.Bytes.{number};
-ghost use Rattle.records.specs.Records.{record_at, read_row, write_row, stabilize_row, failed_row, keeps_row, next_record, observation_of};
+ghost use Rattle.std.specs.Prelude.{◌≡◌, ◌+◌, ◌^◌, leb, ltb, length, take, drop, is_some, IfSome};
+ghost use Rattle.records.specs.Records.{record_at, one_of, read_row, write_row, stabilize_row, failed_row, keeps_row, next_record, observation_of};
 
-use model::Observation;
+use model::{Kind, Observation};
 
 // One record as its bytes have it. Its kind is a byte and no enum, since any byte at all can stand there.
-#[derive(Clone, Copy, Debug, PartialEq, Eq)]
+#[derive(Clone, Copy, Debug, PartialEq, Eq, Default)]
 pub struct Record {
     pub set: u64,
     pub kind: u8,
@@ -24,107 +23,92 @@ pub struct Limits {
     pub values: u8,
 }
 
-// A byte as a wide number.
-fn wide(byte: u8) -> u64
-    ensures { (result ≡ byte) × (result < 256) }
+// The 12 bytes at a place, where so many are left.
+fn bytes_at(file: &[u8], at: usize) -> Option<&[u8; 12]>
+    ensures left { is_some result ≡ leb (at + 12) (length file.now) }
+    ensures these { IfSome result (λ bytes. bytes.now ≡ take 12 (drop at file.now)) }
 {
-    byte as u64
+    file.get(at..)?.first_chunk::<12>()
 }
 
-// The number in the 8 bytes at a place, least byte first, and 0 where there are fewer.
-fn number8(file: &[u8], at: usize) -> u64
-    ensures { result ≡ cond (leb (at + 8) (length file.now)) (number file.now at 8) 0 }
+// The record that 12 bytes stand for.
+#[tactic(auto, unfolding(crate::specs::Records::record_at, crate::specs::Bytes::number))]
+fn record_of(bytes: &[u8; 12]) -> Record
+    ensures { result ≡ record_at bytes.now 0 }
 {
-    if file.len() < 8 {
-        return 0;
+    Record {
+        set: u64::from_le_bytes([
+            bytes[4], bytes[5], bytes[6], bytes[7], bytes[8], bytes[9], bytes[10], bytes[11],
+        ]),
+        kind: bytes[0],
+        tablet: bytes[1],
+        new: bytes[2],
+        seen: bytes[3],
     }
-    if file.len() - 8 < at {
-        return 0;
-    }
-    let high = wide(file[at + 6]) + 256 * wide(file[at + 7]);
-    let upper = wide(file[at + 4]) + 256 * (wide(file[at + 5]) + 256 * high);
-    let lower = wide(file[at + 2]) + 256 * (wide(file[at + 3]) + 256 * upper);
-    wide(file[at]) + 256 * (wide(file[at + 1]) + 256 * lower)
-}
-
-// Whether 12 bytes are left from a position on.
-fn is_left(body: &[u8], at: usize) -> bool
-    ensures { result ≡ leb (at + 12) (length body.now) }
-{
-    12 <= body.len() && at <= body.len() - 12
 }
 
 // The record at a place, or all 0 where fewer than 12 bytes are left.
-#[tactic(auto, unfolding(crate::specs::Records::record_at))]
+#[tactic(auto, using(crate::proofs::Parts::record_part), unfolding(crate::specs::Records::record_at))]
 pub fn read_record(file: &[u8], at: usize) -> Record
     ensures { result ≡ record_at file.now at }
 {
-    if !is_left(file, at) {
-        return Record {
-            set: 0,
-            kind: 0,
-            tablet: 0,
-            new: 0,
-            seen: 0,
-        };
-    }
-    Record {
-        set: number8(file, at + 4),
-        kind: file[at],
-        tablet: file[at + 1],
-        new: file[at + 2],
-        seen: file[at + 3],
+    match bytes_at(file, at) {
+        Some(bytes) => record_of(bytes),
+        None => Record::default(),
     }
 }
 
 // A step of a listing, from any position at all: the next record, if there is one, and the position after it. At the end the
 // position stays.
-#[tactic(auto, unfolding(crate::specs::Records::next_record))]
+#[tactic(auto, using(crate::proofs::Parts::record_part), unfolding(crate::specs::Records::next_record))]
 pub fn next(body: &[u8], at: usize) -> (Option<Record>, usize)
     ensures { result ≡ next_record body.now at }
 {
-    if is_left(body, at) {
-        (Some(read_record(body, at)), at + 12)
-    } else {
-        (None, at)
+    match bytes_at(body, at) {
+        Some(bytes) => (Some(record_of(bytes)), at + 12),
+        None => (None, at),
     }
 }
 
 // Whether no bit from v up is set.
+#[tactic(auto, using(crate::proofs::Numbers::shifted_out, crate::proofs::Numbers::all_below))]
 fn below(v: u8, set: u64) -> bool
     ensures { result ≡ ltb set (2 ^ v) }
 {
-    if v < 64 { (set >> v) == 0 } else { true }
+    64 <= v || set >> v == 0
 }
 
 impl Limits {
-    #[tactic(auto, unfolding(crate::specs::Records::read_row))]
-    fn is_read(self, record: Record) -> bool
-        ensures { result ≡ read_row self.tablets self.values «record» }
+    // Whether there is a tablet of this number.
+    fn has_tablet(self, tablet: u8) -> bool
+        ensures { result ≡ one_of self.tablets tablet }
     {
-        (record.kind == 1)
-            & (((1 <= record.tablet) & (record.tablet <= self.tablets))
-                & ((record.new == 0) & ((record.seen < self.values) & (record.set == 0))))
+        1 <= tablet && tablet <= self.tablets
+    }
+
+    #[tactic(auto, unfolding(crate::specs::Records::read_row))]
+    fn keeps_read(self, r: Record) -> bool
+        ensures { r.kind ≡ 1 → result ≡ read_row self.tablets self.values r }
+    {
+        self.has_tablet(r.tablet) && r.new == 0 && r.seen < self.values && r.set == 0
     }
 
     #[tactic(auto, unfolding(crate::specs::Records::write_row))]
-    fn is_write(self, record: Record) -> bool
-        ensures { result ≡ write_row self.tablets self.values «record» }
+    fn keeps_write(self, r: Record) -> bool
+        ensures { r.kind ≡ 2 → result ≡ write_row self.tablets self.values r }
     {
-        (record.kind == 2)
-            & (((1 <= record.tablet) & (record.tablet <= self.tablets))
-                & ((record.new < self.values) & ((record.seen < self.values) & (record.set == 0))))
+        self.has_tablet(r.tablet) && r.new < self.values && r.seen < self.values && r.set == 0
     }
 
     #[tactic(auto, unfolding(crate::specs::Records::stabilize_row))]
-    fn is_stabilize(self, record: Record) -> bool
-        ensures { result ≡ stabilize_row self.values «record» }
+    fn keeps_stabilize(self, r: Record) -> bool
+        ensures { r.kind ≡ 3 → result ≡ stabilize_row self.values r }
     {
-        let inside = below(self.values, record.set);
-        (record.kind == 3)
-            & ((record.tablet == 0)
-                & ((record.new == 0)
-                    & ((record.seen < self.values) & ((record.set % 2 == 0) & inside))))
+        r.tablet == 0
+            && r.new == 0
+            && r.seen < self.values
+            && r.set % 2 == 0
+            && below(self.values, r.set)
     }
 
     // Whether a record keeps its row of the table.
@@ -132,16 +116,21 @@ impl Limits {
     pub fn keep(self, record: Record) -> bool
         ensures { result ≡ keeps_row self.tablets self.values «record» }
     {
-        self.is_read(record)
-            | (self.is_write(record) | (self.is_stabilize(record) | is_failed(record)))
+        match Kind::try_from(record.kind) {
+            Ok(Kind::Read) => self.keeps_read(record),
+            Ok(Kind::Write) => self.keeps_write(record),
+            Ok(Kind::Stabilize) => self.keeps_stabilize(record),
+            Ok(Kind::Failed) => keeps_failed(record),
+            Ok(Kind::Up | Kind::Down) | Err(_) => false,
+        }
     }
 }
 
 #[tactic(auto, unfolding(crate::specs::Records::failed_row))]
-fn is_failed(r: Record) -> bool
-    ensures { result ≡ failed_row r }
+fn keeps_failed(r: Record) -> bool
+    ensures { r.kind ≡ 4 → result ≡ failed_row r }
 {
-    (r.kind == 4) & ((r.tablet == 0) & ((r.new == 0) & ((r.seen == 0) & (r.set == 0))))
+    r.tablet == 0 && r.new == 0 && r.seen == 0 && r.set == 0
 }
 
 // What a record says.
@@ -149,24 +138,20 @@ fn is_failed(r: Record) -> bool
 pub fn observation(r: Record) -> Observation
     ensures { result ≡ observation_of r }
 {
-    if (r.kind == 1) & ((r.new == 0) & (r.set == 0)) {
-        return Observation::Read {
+    match Kind::try_from(r.kind) {
+        Ok(Kind::Read) if r.new == 0 && r.set == 0 => Observation::Read {
             tablet: r.tablet,
             seen: r.seen,
-        };
-    }
-    if (r.kind == 2) & (r.set == 0) {
-        return Observation::Write {
+        },
+        Ok(Kind::Write) if r.set == 0 => Observation::Write {
             tablet: r.tablet,
             new: r.new,
             seen: r.seen,
-        };
-    }
-    if (r.kind == 3) & ((r.tablet == 0) & (r.new == 0)) {
-        return Observation::Stabilize {
+        },
+        Ok(Kind::Stabilize) if r.tablet == 0 && r.new == 0 => Observation::Stabilize {
             seen: r.seen,
             conflicts: r.set,
-        };
+        },
+        _ => Observation::Failed,
     }
-    Observation::Failed
 }
