@@ -49,7 +49,7 @@ fn then_write(state: State, tablet: u8, new: u8, seen: u8) -> State
     let seat = seat_of(tablet);
     let at = seat as usize;
     let mut next = state;
-    next.dirty = marks::add8(state.dirty, seat);
+    next.dirty = marks::add(state.dirty, seat);
     if at < 8 {
         next.local[at] = new;
     }
@@ -105,14 +105,14 @@ pub fn then_up(state: State, tablet: u8) -> State
     let fresh = marked(state.fresh, tablet);
     let differs = value != state.server;
     let mut next = state;
-    next.dirty = marks::remove8(state.dirty, seat_of(tablet));
+    next.dirty = marks::remove(state.dirty, seat_of(tablet));
     if fresh & differs {
         next.server = value;
         next.fresh = others_stale(state.fresh, tablet);
         return next;
     }
     if !fresh & (differs & (value != 0)) {
-        next.conflicts = marks::add64(state.conflicts, value);
+        next.conflicts = marks::add(state.conflicts, value);
         return next;
     }
     next
@@ -131,7 +131,7 @@ pub fn then_down(state: State, tablet: u8) -> State
     let seat = seat_of(tablet);
     let at = seat as usize;
     let mut next = state;
-    next.fresh = marks::add8(state.fresh, seat);
+    next.fresh = marks::add(state.fresh, seat);
     if at < 8 {
         next.local[at] = state.server;
     }

@@ -37,7 +37,7 @@ pub fn local_value(local: [u8; 8], tablet: u8) -> u8
 pub fn marked(set: u8, tablet: u8) -> bool
     ensures { result ≡ mark_at set tablet }
 {
-    marks::has8(set, seat_of(tablet))
+    marks::has(set, seat_of(tablet))
 }
 
 // The fresh marks once every tablet but this one has become stale, one tablet after the other.
@@ -49,7 +49,7 @@ pub fn others_stale(fresh: u8, tablet: u8) -> u8
     let mut other = 0u8;
     while other < 8 {
         if other != keep {
-            left = marks::remove8(left, other);
+            left = marks::remove(left, other);
         }
         other += 1;
     }

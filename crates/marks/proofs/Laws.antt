@@ -2,13 +2,13 @@
 -- large the number is, that two sets with the same members are one, and what the machine's shifts come to. Assumes nothing.
 use mathlib.Core.Path.{◌≡◌, refl, sym, ap, ◌∙◌}
 use mathlib.Core.Bool.{Bool, true, false, cond, ◌&&◌, ◌||◌, xor, true≢false, and-true, and-false, or-true, or-false}
-use Prim.Native.Nat.{ℕ, zero, suc, ◌*◌, ◌/◌, ◌%◌, ◌^◌, ◌≤◌, ◌<◌}
+use Prim.Native.Nat.{ℕ, zero, suc, min, ◌*◌, ◌/◌, ◌%◌, ◌^◌, ◌≤◌, ◌<◌}
 use native.Mathlib.Nat.{lt_of_le_of_lt, lt_of_lt_of_le, one-mul, div-one, div_self, div-eq_of_lt, mod-eq_of_lt, zero-div}
 use native.Mathlib.Decide.{dec_lt, ℕ_discrete}
 use native.Mathlib.Numerals.{add-one, one-add}
 use native.Mathlib.Omega.{arith, ne_cases}
 use lib.Arith.{lt-one}
-use lib.Bits.{bit_and, bit_or, bit_xor, and_comm, and_mask, and_shifted, and_le_l, and_le_r, and_shr, and_mod, or_shr, or_mod, or_lt, or_add_and, xor_add_and, xor_shr, xor_mod, xor_lt}
+use lib.Bits.{bit_and, bit_or, bit_xor, and_comm, and_mask, and_shifted, and_le_l, and_le_r, and_shr, and_mod, or_shr, or_mod, or_lt, or_zero_r, or_add_and, xor_zero_r, xor_add_and, xor_shr, xor_mod, xor_lt}
 use lib.Dec.{ltb, eqb}
 use lib.Pow.{pow_pos, pow_mono, pow-lt, shr_lt, shr-shr, ones_lt}
 use borrow.Author.Tests.{lt-ltb, le-ltb}
@@ -224,7 +224,38 @@ pub remove_out : (w s i : ℕ) → w ≤ i → s ≡ remove w s i
 unfolding remove
 remove_out w s i l = rw le-ltb
 
+-- with a bit put in or none, and with it put in and turned over
+or_cond : (b : Bool) (s x : ℕ) → bit_or s (cond b x 0) ≡ cond b (bit_or s x) s
+or_cond true s x = refl
+or_cond false s x = or_zero_r s
+
+xor_cond : (b : Bool) (s x : ℕ) → bit_xor (bit_or s (cond b x 0)) (cond b x 0) ≡ cond b (bit_xor (bit_or s x) x) s
+xor_cond true s x = refl
+xor_cond false s x = xor_zero_r (bit_or s 0) ∙ or_zero_r s
+
+-- the bit that stands for i, put in and narrowed to the width
+pub narrow_add : (w s i : ℕ) → s < 2 ^ w → bit_or s (cond (ltb i w) (2 ^ i) 0) % 2 ^ w ≡ add w s i
+unfolding add
+narrow_add w s i b = ap (λ n. n % 2 ^ w) (or_cond (ltb i w) s (2 ^ i)) ∙ mod-eq_of_lt (add_below w s i b)
+
+-- the bit that stands for i, put in and turned over and narrowed to the width
+pub narrow_remove : (w s i : ℕ) → s < 2 ^ w
+    → bit_xor (bit_or s (cond (ltb i w) (2 ^ i) 0)) (cond (ltb i w) (2 ^ i) 0) % 2 ^ w ≡ remove w s i
+unfolding remove
+narrow_remove w s i b = ap (λ n. n % 2 ^ w) (xor_cond (ltb i w) s (2 ^ i)) ∙ mod-eq_of_lt (remove_below w s i b)
+
 -- ---- the smallest number
+
+-- among more bits it is the same, and where there is none it is cut to the width
+pub lowest_within : (w v s : ℕ) → w ≤ v → min w (lowest v s) ≡ lowest w s
+unfolding lowest count_trailing_zeros
+lowest_within zero v s l = omega arith
+lowest_within (suc w) zero s l = absurd (omega arith)
+lowest_within (suc w) (suc v) s l = go (s % 2) (lowest_within w v (s / 2) (omega arith))
+  where
+    go : (r : ℕ) → min w (count_trailing_zeros v (s / 2)) ≡ count_trailing_zeros w (s / 2) → min (suc w) (under r (count_trailing_zeros v (s / 2))) ≡ under r (count_trailing_zeros w (s / 2))
+    go zero e = omega arith
+    go (suc r) e = omega arith
 
 first_bit : (s : ℕ) → has s 0 ≡ eqb (s % 2) 1
 unfolding has

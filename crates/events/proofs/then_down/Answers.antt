@@ -10,10 +10,10 @@ use Rattle.events.proofs.then_down.Goals as goal
 
 pub returns-then-at-lt8 : goal.returns-then-at-lt8
 unfolding then
-returns-then-at-lt8 c = rw (c.add8.ensures, c.seat_of-seat.ensures)
+returns-then-at-lt8 c = rw (c.add.ensures, c.seat_of-seat.ensures)
 
 pub returns-else-at-lt8 : goal.returns-else-at-lt8
 unfolding then
 returns-else-at-lt8 c =
     let row : length c.args.state.local ≡ 8 = search rules in
-    rw (c.add8.ensures, c.seat_of-seat.ensures, set_out c.args.state.local (seat c.args.tablet) c.args.state.server (omega arith))
+    rw (c.add.ensures, c.seat_of-seat.ensures, set_out c.args.state.local (seat c.args.tablet) c.args.state.server (omega arith))

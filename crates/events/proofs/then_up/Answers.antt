@@ -6,15 +6,15 @@ use Rattle.events.proofs.then_up.Goals as goal
 
 pub returns-then-fresh-differs : goal.returns-then-fresh-differs
 returns-then-fresh-differs c =
-    rw (c.others_stale.ensures, c.remove8.ensures, c.seat_of.ensures, c.local_value-value.ensures)
+    rw (c.others_stale.ensures, c.remove.ensures, c.seat_of.ensures, c.local_value-value.ensures)
     (sym (won _ _ (wins_by _ _ _ _ _ c.marked-fresh.ensures c.local_value-value.ensures c.if-fresh-differs.true)))
 
 pub returns-then-fresh-differs-2 : goal.returns-then-fresh-differs-2
 returns-then-fresh-differs-2 c =
-    rw (c.add64.ensures, c.remove8.ensures, c.seat_of.ensures, c.local_value-value.ensures)
+    rw (c.add.ensures, c.remove.ensures, c.seat_of.ensures, c.local_value-value.ensures)
     (sym (joined _ _ (wins_by _ _ _ _ _ c.marked-fresh.ensures c.local_value-value.ensures c.if-fresh-differs.false) (joins_by _ _ _ _ _ c.marked-fresh.ensures c.local_value-value.ensures c.if-fresh-differs-2.true)))
 
 pub returns : goal.returns
 returns c =
-    rw (c.remove8.ensures, c.seat_of.ensures)
+    rw (c.remove.ensures, c.seat_of.ensures)
     (sym (neither _ _ (wins_by _ _ _ _ _ c.marked-fresh.ensures c.local_value-value.ensures c.if-fresh-differs.false) (joins_by _ _ _ _ _ c.marked-fresh.ensures c.local_value-value.ensures c.if-fresh-differs-2.false)))

@@ -5,4 +5,4 @@ use Rattle.events.proofs.tablets.marked.Goals as goal
 
 pub returns : goal.returns
 unfolding mark_at
-returns c = rw (c.has8.ensures, c.seat_of.ensures)
+returns c = rw (c.has.ensures, c.seat_of.ensures)

@@ -12,7 +12,7 @@ loop-other-init c = staled_none _ _ c.ranges.fresh.fits
 
 pub loop-other-preserved : goal.loop-other-preserved
 loop-other-preserved c =
-    ⊎_elim (λ w. rw (w.left-is ∙ w.remove8-left.ensures) (staled_more _ _ _ _ c.loop-other-test.true w.if-other-keep.true c.loop-other.invariant))
+    ⊎_elim (λ w. rw (w.left-is ∙ w.remove-left.ensures) (staled_more _ _ _ _ c.loop-other-test.true w.if-other-keep.true c.loop-other.invariant))
     (λ w. rw w.left-is (staled_kept _ _ _ _ c.loop-other-test.true w.if-other-keep.false c.loop-other.invariant)) c.if-other-keep.branch-raw
 
 pub returns : goal.returns
