@@ -23,7 +23,7 @@ pub struct Limits {
     pub values: u8,
 }
 
-// The 12 bytes at a place, where so many are left.
+// The 12 bytes of the record at a place, where so many are left.
 fn bytes_at(file: &[u8], at: usize) -> Option<&[u8; 12]>
     ensures left { is_some result ≡ leb (at + 12) (length file.now) }
     ensures these { IfSome result (λ bytes. bytes.now ≡ take 12 (drop at file.now)) }
@@ -32,18 +32,20 @@ fn bytes_at(file: &[u8], at: usize) -> Option<&[u8; 12]>
 }
 
 // The record that 12 bytes stand for.
-#[tactic(auto, unfolding(crate::specs::Records::record_at, crate::specs::Bytes::number))]
-fn record_of(bytes: &[u8; 12]) -> Record
-    ensures { result ≡ record_at bytes.now 0 }
-{
-    Record {
-        set: u64::from_le_bytes([
-            bytes[4], bytes[5], bytes[6], bytes[7], bytes[8], bytes[9], bytes[10], bytes[11],
-        ]),
-        kind: bytes[0],
-        tablet: bytes[1],
-        new: bytes[2],
-        seen: bytes[3],
+impl From<&[u8; 12]> for Record {
+    ghost from_gives = { λ bytes r. r ≡ record_at bytes.now 0 };
+
+    #[tactic(auto, unfolding(crate::specs::Records::record_at, crate::specs::Bytes::number))]
+    fn from(bytes: &[u8; 12]) -> Record {
+        Record {
+            set: u64::from_le_bytes([
+                bytes[4], bytes[5], bytes[6], bytes[7], bytes[8], bytes[9], bytes[10], bytes[11],
+            ]),
+            kind: bytes[0],
+            tablet: bytes[1],
+            new: bytes[2],
+            seen: bytes[3],
+        }
     }
 }
 
@@ -53,7 +55,7 @@ pub fn read_record(file: &[u8], at: usize) -> Record
     ensures { result ≡ record_at file.now at }
 {
     match bytes_at(file, at) {
-        Some(bytes) => record_of(bytes),
+        Some(bytes) => Record::from(bytes),
         None => Record::default(),
     }
 }
@@ -65,7 +67,7 @@ pub fn next(body: &[u8], at: usize) -> (Option<Record>, usize)
     ensures { result ≡ next_record body.now at }
 {
     match bytes_at(body, at) {
-        Some(bytes) => (Some(record_of(bytes)), at + 12),
+        Some(bytes) => (Some(Record::from(bytes)), at + 12),
         None => (None, at),
     }
 }
@@ -78,14 +80,16 @@ fn below(v: u8, set: u64) -> bool
     64 <= v || set >> v == 0
 }
 
+// A record keeps the row of its kind; no other kind has a row.
 impl Limits {
     // Whether there is a tablet of this number.
     fn has_tablet(self, tablet: u8) -> bool
         ensures { result ≡ one_of self.tablets tablet }
     {
-        1 <= tablet && tablet <= self.tablets
+        (1..=self.tablets).contains(&tablet)
     }
 
+    // The row of a READ.
     #[tactic(auto, unfolding(crate::specs::Records::read_row))]
     fn keeps_read(self, r: Record) -> bool
         ensures { r.kind ≡ 1 → result ≡ read_row self.tablets self.values r }
@@ -93,6 +97,7 @@ impl Limits {
         self.has_tablet(r.tablet) && r.new == 0 && r.seen < self.values && r.set == 0
     }
 
+    // The row of a WRITE.
     #[tactic(auto, unfolding(crate::specs::Records::write_row))]
     fn keeps_write(self, r: Record) -> bool
         ensures { r.kind ≡ 2 → result ≡ write_row self.tablets self.values r }
@@ -100,6 +105,7 @@ impl Limits {
         self.has_tablet(r.tablet) && r.new < self.values && r.seen < self.values && r.set == 0
     }
 
+    // The row of a STABILIZE: bit 0 and bits from v up are clear.
     #[tactic(auto, unfolding(crate::specs::Records::stabilize_row))]
     fn keeps_stabilize(self, r: Record) -> bool
         ensures { r.kind ≡ 3 → result ≡ stabilize_row self.values r }
@@ -113,19 +119,20 @@ impl Limits {
 
     // Whether a record keeps its row of the table.
     #[tactic(auto, unfolding(crate::specs::Records::keeps_row))]
-    pub fn keep(self, record: Record) -> bool
-        ensures { result ≡ keeps_row self.tablets self.values «record» }
+    pub fn keep(self, r: Record) -> bool
+        ensures { result ≡ keeps_row self.tablets self.values r }
     {
-        match Kind::try_from(record.kind) {
-            Ok(Kind::Read) => self.keeps_read(record),
-            Ok(Kind::Write) => self.keeps_write(record),
-            Ok(Kind::Stabilize) => self.keeps_stabilize(record),
-            Ok(Kind::Failed) => keeps_failed(record),
+        match Kind::try_from(r.kind) {
+            Ok(Kind::Read) => self.keeps_read(r),
+            Ok(Kind::Write) => self.keeps_write(r),
+            Ok(Kind::Stabilize) => self.keeps_stabilize(r),
+            Ok(Kind::Failed) => keeps_failed(r),
             Ok(Kind::Up | Kind::Down) | Err(_) => false,
         }
     }
 }
 
+// The row of a failed STABILIZE, which holds nothing beside its kind.
 #[tactic(auto, unfolding(crate::specs::Records::failed_row))]
 fn keeps_failed(r: Record) -> bool
     ensures { r.kind ≡ 4 → result ≡ failed_row r }
