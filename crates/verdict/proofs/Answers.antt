@@ -6,48 +6,51 @@ use mathlib.Core.Path.{◌≡◌, refl, sym, ap, ◌∙◌}
 use contract.Lifetimes.{Lfts}
 use denote.Triple.Clauses.{AtExit}
 use borrow.Fn.Kinds.{Dens, res_t, ended_of}
+use Rattle.std.proofs.Common.{Result, Ok, Err}
 use lib.Dec.{eqb}
 use Rattle.tracefile.specs.declared.Refusal.TheVariants.{Length, Edition, Tablets, Values, Bodies, Contents, BadRecord, Trace}
 use Rattle.verdict.specs.Judged.{Said, explained_by, unexplained_in, undecided_at, refused, told}
 use Rattle.verdict.specs.declared.Verdict.{Verdict}
-use Rattle.verdict.specs.declared.Verdict.TheVariants.{Explained, Unexplained, Undecided, Refused, NoRoom, TooDeep}
+use Rattle.verdict.specs.declared.Verdict.TheVariants.{Explained, Unexplained, Undecided}
+use Rattle.verdict.specs.declared.Refusal.{Refusal}
+use Rattle.verdict.specs.declared.Refusal.TheVariants.{File, NoRoom, TooDeep}
 use Rattle.verdict.proofs.explain.Kinds as kinds
 use Rattle.verdict.proofs.explain.Reads as reads
 
 -- the case that has these numbers
-case : Said → Verdict
-case (explained_by k m) = Explained k m
-case (unexplained_in k) = Unexplained k
-case (undecided_at b) = Undecided b
+case : Said → Result Verdict Refusal
+case (explained_by k m) = Ok (Explained k m)
+case (unexplained_in k) = Ok (Unexplained k)
+case (undecided_at b) = Ok (Undecided b)
 case (refused k p) =
-    cond (eqb k 1) (Refused Length)
-    (cond (eqb k 2) (Refused Edition)
-    (cond (eqb k 3) (Refused Tablets)
-    (cond (eqb k 4) (Refused Values)
-    (cond (eqb k 5) (Refused Bodies)
-    (cond (eqb k 6) (Refused (Contents p))
-    (cond (eqb k 7) (Refused (BadRecord p))
-    (cond (eqb k 8) (Refused Trace)
-    (cond (eqb k 9) NoRoom TooDeep))))))))
+    cond (eqb k 1) (Err (File Length))
+    (cond (eqb k 2) (Err (File Edition))
+    (cond (eqb k 3) (Err (File Tablets))
+    (cond (eqb k 4) (Err (File Values))
+    (cond (eqb k 5) (Err (File Bodies))
+    (cond (eqb k 6) (Err (File (Contents p)))
+    (cond (eqb k 7) (Err (File (BadRecord p)))
+    (cond (eqb k 8) (Err (File Trace))
+    (cond (eqb k 9) (Err NoRoom) (Err TooDeep)))))))))
 
 -- it is the case that told them
-case_told : (x : Verdict) → case (told x) ≡ x
+case_told : (x : Result Verdict Refusal) → case (told x) ≡ x
 unfolding case
-case_told (Explained k m) = refl
-case_told (Unexplained k) = refl
-case_told (Undecided b) = refl
-case_told (Refused Length) = refl
-case_told (Refused Edition) = refl
-case_told (Refused Tablets) = refl
-case_told (Refused Values) = refl
-case_told (Refused Bodies) = refl
-case_told (Refused (Contents p)) = refl
-case_told (Refused (BadRecord p)) = refl
-case_told (Refused Trace) = refl
-case_told NoRoom = refl
-case_told TooDeep = refl
+case_told (Ok (Explained k m)) = refl
+case_told (Ok (Unexplained k)) = refl
+case_told (Ok (Undecided b)) = refl
+case_told (Err (File Length)) = refl
+case_told (Err (File Edition)) = refl
+case_told (Err (File Tablets)) = refl
+case_told (Err (File Values)) = refl
+case_told (Err (File Bodies)) = refl
+case_told (Err (File (Contents p))) = refl
+case_told (Err (File (BadRecord p))) = refl
+case_told (Err (File Trace)) = refl
+case_told (Err NoRoom) = refl
+case_told (Err TooDeep) = refl
 
-told_once : (x y : Verdict) → told x ≡ told y → x ≡ y
+told_once : (x y : Result Verdict Refusal) → told x ≡ told y → x ≡ y
 told_once x y h = sym (case_told x) ∙ ap case h ∙ case_told y
 
 -- one answer and one room for each input

@@ -6,6 +6,7 @@ use mathlib.Core.Path.{◌≡◌, refl, sym, ap, ap₂, ◌∙◌}
 use Prim.Native.Nat.{ℕ, ◌-◌, ◌*◌, ◌^◌, ◌≤◌, ◌<◌}
 use native.Mathlib.Nat.{mul-le-mul, le_trans}
 use native.Mathlib.Omega.{arith}
+use Rattle.std.proofs.Common.{Option, Some, None, Result, Ok, Err}
 use lib.Dec.{ltb, leb}
 use lib.ListN.{length, drop, length-drop}
 use lib.Seq.{length-take-le}
@@ -20,12 +21,11 @@ use Rattle.tracefile.specs.Refusals as R
 use Rattle.tracefile.specs.File.{tablets_in, offset_in, count_in, body_size, check_trace, asked}
 use Rattle.tracefile.specs.declared.Refusal.{Refusal}
 use Rattle.tracefile.specs.declared.Refusal.TheVariants.{Length, Edition, Tablets, Values, Bodies, Contents, BadRecord, Trace}
-use Rattle.tracefile.specs.declared.Checked.{Checked}
-use Rattle.tracefile.specs.declared.Checked.TheVariants.{Refused}
 use Rattle.tracefile.proofs.Good.{there, asked_part, good_trace, good_file}
-use Rattle.walk.specs.Steps.{answer_of, answered, room_answered}
-use Rattle.walk.specs.declared.Answer.{Answer}
-use Rattle.walk.specs.declared.Answer.TheVariants.{Explained, Unexplained, Undecided, TooDeep, NoRoom}
+use Rattle.walk.specs.declared.Walked.{Walked as Told}
+use Rattle.walk.specs.declared.Stop.{Stop}
+use Rattle.walk.specs.declared.Stop.TheVariants.{Spent, Deep, NoRoom}
+use Rattle.walk.specs.Steps.{first_end, none_in, answer_of, answered, room_answered}
 use Rattle.walk.proofs.Whole.{observations_length}
 use Rattle.verdict.specs.Judged.{Said, explained_by, unexplained_in, undecided_at, refused, file_refusal, evening, said, walked_in, unless_refused, judged, room_walked, room_unless, room_judged}
 
@@ -57,11 +57,11 @@ refusal_keeps (Contents p) room next = refl
 refusal_keeps (BadRecord p) room next = refl
 refusal_keeps Trace room next = refl
 
-pub file_refused : (f : List ℕ) (t b : ℕ) (room : List ℕ) (x : Checked) (r : Refusal) → R.told x ≡ check_trace f t → x ≡ Refused r
+pub file_refused : (f : List ℕ) (t b : ℕ) (room : List ℕ) (r : Refusal) → R.refusal r ≡ check_trace f t
     → Says f t b room (file_refusal (R.refusal r)) room
 unfolding judged room_judged
-file_refused f t b room x r h e =
-    let c : check_trace f t ≡ R.refusal r = sym h ∙ ap R.told e in (
+file_refused f t b room r h =
+    let c : check_trace f t ≡ R.refusal r = sym h in (
       sym (ap (λ (a : R.Answer). unless_refused a (walked_in f t b (length room))) c ∙ refusal_said r (walked_in f t b (length room))),
       sym (ap (λ (a : R.Answer). room_unless a room (room_walked f t b room)) c ∙ refusal_keeps r room (room_walked f t b room)),
     )
@@ -69,12 +69,26 @@ file_refused f t b room x r h e =
 -- ---- the walk's answer
 
 -- what the walk's answer says
-abbrev pub say : ℕ → Answer → Said
-say b (Explained k m) = explained_by k m
-say b (Unexplained k) = unexplained_in k
-say b Undecided = undecided_at b
-say b TooDeep = refused 10 0
-say b NoRoom = refused 9 0
+abbrev by_events : ℕ → Option ℕ → Said
+by_events k (Some m) = explained_by k m
+by_events k None = unexplained_in k
+
+abbrev events_in : Result Told Stop → Option ℕ
+events_in (Ok w) = w.events
+events_in (Err stop) = None
+
+abbrev pub say : ℕ → Result Told Stop → Said
+say b (Ok w) = by_events w.points w.events
+say b (Err Spent) = undecided_at b
+say b (Err Deep) = refused 10 0
+say b (Err NoRoom) = refused 9 0
+
+-- what a walk says, by its events
+pub first_end_is : (w : Told) (k : ℕ) → w.events ≡ Some k → Ok w ≡ first_end w.points k
+first_end_is w k h = ap (λ (e : Option ℕ). Ok (record { points = w.points; events = e })) h
+
+pub none_in_is : (w : Told) → w.events ≡ None → Ok w ≡ none_in w.points
+none_in_is w h = ap (λ (e : Option ℕ). Ok (record { points = w.points; events = e })) h
 
 cut_said : (b : ℕ) (w : Walked Event) → say b (answer_of (cut b w)) ≡ said (cut b w)
 unfolding cut answer_of said
@@ -98,11 +112,11 @@ answer_said : (f : List ℕ) (t b room : ℕ) → say b (answered (tablets_in f)
 unfolding answered walked_in outcome
 answer_said f t b room = go (ltb room (2 * depth (tablets_in f) (evening f t)))
   where
-    go : (x : Bool) → say b (cond x NoRoom (answer_of (cut b (walk (tablets_in f) (evening f t))))) ≡ cond x (refused 9 0) (said (cut b (walk (tablets_in f) (evening f t))))
+    go : (x : Bool) → say b (cond x (Err NoRoom) (answer_of (cut b (walk (tablets_in f) (evening f t))))) ≡ cond x (refused 9 0) (said (cut b (walk (tablets_in f) (evening f t))))
     go true = refl
     go false = cut_said b (walk (tablets_in f) (evening f t))
 
-pub walk_said : (f : List ℕ) (t b n : ℕ) (room body : List ℕ) (a known : Answer) (last : List ℕ) → check_trace f t ≡ R.accepted → n ≡ tablets_in f → body ≡ asked f t
+pub walk_said : (f : List ℕ) (t b n : ℕ) (room body : List ℕ) (a known : Result Told Stop) (last : List ℕ) → check_trace f t ≡ R.accepted → n ≡ tablets_in f → body ≡ asked f t
     → a ≡ answered n (observations body) b (length room) → last ≡ room_answered n (observations body) b room → a ≡ known → Says f t b room (say b known) last
 unfolding judged room_judged unless_refused room_unless room_walked room_answered
 walk_said f t b n room body a known last c p q e g h = (
@@ -135,34 +149,41 @@ depth_small f t c =
     let p : tablets_in f * writes (evening f t) ≤ 8 * 256 = mul-le-mul n ws in
     omega arith
 
-cut_few : (n b k m : ℕ) (obs : List Observation) (w : Walked Event) → walk n obs ≡ w → answer_of (cut b w) ≡ Explained k m → m ≤ depth n obs
+-- the number of events of one answer is that of the other
+events_told : {a b k m : ℕ} → first_end a b ≡ first_end k m → b ≡ m
+events_told h = let e = ap events_in h in cc
+
+no_events : {a k m : ℕ} → none_in a ≡ first_end k m → ⊥
+no_events h = let e = ap events_in h in cc
+
+cut_few : (n b k m : ℕ) (obs : List Observation) (w : Walked Event) → walk n obs ≡ w → answer_of (cut b w) ≡ first_end k m → m ≤ depth n obs
 unfolding cut answer_of walk
 cut_few n b k m obs (found j es) e h = go (leb j b) h (found_within (service n) (depth n obs) (first_state n) obs j es e)
   where
-    go : (t : Bool) → answer_of (cond t (explained j es) (undecided b)) ≡ Explained k m → length es ≤ depth n obs → m ≤ depth n obs
-    go true g l = let q : length es ≡ m = cc in omega arith
-    go false g l = let z : ◌≡◌ {A = ℕ} 0 1 = cc in absurd (omega arith)
+    go : (t : Bool) → answer_of (cond t (explained j es) (undecided b)) ≡ first_end k m → length es ≤ depth n obs → m ≤ depth n obs
+    go true g l = let q : length es ≡ m = events_told g in omega arith
+    go false g l = absurd cc
 cut_few n b k m obs (endless j) e h = go (leb j b) h
   where
-    go : (t : Bool) → answer_of (cond t (unexplained j) (undecided b)) ≡ Explained k m → m ≤ depth n obs
-    go true g = let z : ◌≡◌ {A = ℕ} 0 1 = cc in absurd (omega arith)
-    go false g = let z : ◌≡◌ {A = ℕ} 0 1 = cc in absurd (omega arith)
+    go : (t : Bool) → answer_of (cond t (unexplained j) (undecided b)) ≡ first_end k m → m ≤ depth n obs
+    go true g = absurd (no_events g)
+    go false g = absurd cc
 cut_few n b k m obs (stopped j) e h = go (ltb j b) h
   where
-    go : (t : Bool) → answer_of (cond t too_deep (undecided b)) ≡ Explained k m → m ≤ depth n obs
-    go true g = let z : ◌≡◌ {A = ℕ} 0 1 = cc in absurd (omega arith)
-    go false g = let z : ◌≡◌ {A = ℕ} 0 1 = cc in absurd (omega arith)
+    go : (t : Bool) → answer_of (cond t too_deep (undecided b)) ≡ first_end k m → m ≤ depth n obs
+    go true g = absurd cc
+    go false g = absurd cc
 
-answered_few : (n b k m room : ℕ) (obs : List Observation) → answered n obs b room ≡ Explained k m → m ≤ depth n obs
+answered_few : (n b k m room : ℕ) (obs : List Observation) → answered n obs b room ≡ first_end k m → m ≤ depth n obs
 unfolding answered outcome
 answered_few n b k m room obs h = go (ltb room (2 * depth n obs)) h
   where
-    go : (x : Bool) → cond x NoRoom (answer_of (cut b (walk n obs))) ≡ Explained k m → m ≤ depth n obs
-    go true g = let z : ◌≡◌ {A = ℕ} 0 1 = cc in absurd (omega arith)
+    go : (x : Bool) → cond x (Err NoRoom) (answer_of (cut b (walk n obs))) ≡ first_end k m → m ≤ depth n obs
+    go true g = absurd cc
     go false g = cut_few n b k m obs (walk n obs) refl g
 
-pub events_small : (f : List ℕ) (t b n k m room : ℕ) (body : List ℕ) (a : Answer) → check_trace f t ≡ R.accepted → n ≡ tablets_in f → body ≡ asked f t
-    → a ≡ answered n (observations body) b room → a ≡ Explained k m → m < 2 ^ 32
+pub events_small : (f : List ℕ) (t b n k m room : ℕ) (body : List ℕ) (a : Result Told Stop) → check_trace f t ≡ R.accepted → n ≡ tablets_in f → body ≡ asked f t
+    → a ≡ answered n (observations body) b room → a ≡ first_end k m → m < 2 ^ 32
 events_small f t b n k m room body a c p q e h =
     let g = answered_few (tablets_in f) b k m room (evening f t) (ap₂ (λ (x : ℕ) (y : List ℕ). answered x (observations y) b room) (sym p) (sym q) ∙ sym e ∙ h) in
     let d = depth_small f t c in

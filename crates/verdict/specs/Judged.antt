@@ -1,5 +1,5 @@
 -- Document 01, 'Results and refusals': what is said of one trace of one file, within a budget and a room.
-use Rattle.std.specs.Prelude.{ℕ, ◌*◌, cond, List, ◌≡◌, ltb, length}
+use Rattle.std.specs.Prelude.{ℕ, ◌*◌, cond, List, ◌≡◌, ltb, length, Result, Ok, Err}
 use Rattle.model.specs.Walk.{Outcome, explained, unexplained, undecided, too_deep}
 use Rattle.model.specs.Model.{depth, outcome}
 use Rattle.model.specs.declared.Observation.{Observation}
@@ -9,7 +9,9 @@ use Rattle.tracefile.specs.Refusals as R
 use Rattle.tracefile.specs.File.{tablets_in, check_trace, asked}
 use Rattle.walk.specs.Steps.{outcome_in}
 use Rattle.verdict.specs.declared.Verdict.{Verdict}
-use Rattle.verdict.specs.declared.Verdict.TheVariants.{Explained, Unexplained, Undecided, Refused, NoRoom, TooDeep}
+use Rattle.verdict.specs.declared.Verdict.TheVariants.{Explained, Unexplained, Undecided}
+use Rattle.verdict.specs.declared.Refusal.{Refusal}
+use Rattle.verdict.specs.declared.Refusal.TheVariants.{File, NoRoom, TooDeep}
 
 -- what is said: explained with the point count and the number of events, unexplained with the point count, undecided with the
 -- budget as its count, or a refusal's number and place
@@ -24,13 +26,13 @@ abbrev pub file_refusal : R.Answer → Said
 file_refusal R.accepted = refused 0 0
 file_refusal (R.refused number place) = refused number place
 
-abbrev pub told : Verdict → Said
-told (Explained points events) = explained_by points events
-told (Unexplained points) = unexplained_in points
-told (Undecided points) = undecided_at points
-told (Refused r) = file_refusal (R.refusal r)
-told NoRoom = refused 9 0
-told TooDeep = refused 10 0
+abbrev pub told : Result Verdict Refusal → Said
+told (Ok (Explained points events)) = explained_by points events
+told (Ok (Unexplained points)) = unexplained_in points
+told (Ok (Undecided points)) = undecided_at points
+told (Err (File r)) = file_refusal (R.refusal r)
+told (Err NoRoom) = refused 9 0
+told (Err TooDeep) = refused 10 0
 
 -- the observations of trace t
 abbrev pub evening : List ℕ → ℕ → List Observation

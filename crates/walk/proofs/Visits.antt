@@ -5,6 +5,7 @@ use mathlib.Core.List.{List, [], ◌∷◌}
 use mathlib.Core.Path.{◌≡◌, refl, sym, ap, ◌∙◌}
 use Prim.Native.Nat.{ℕ, zero, suc, ◌+◌, ◌-◌, ◌/◌, ◌≤◌, ◌<◌, ◌^◌}
 use native.Mathlib.Omega.{arith}
+use Rattle.std.proofs.Common.{Err}
 use lib.Dec.{eqb}
 use lib.ListN.{length, drop, length-drop}
 use borrow.Author.Tests.{le-leb}
@@ -18,10 +19,10 @@ use Rattle.model.specs.declared.Observation.{Observation}
 use Rattle.model.specs.declared.Event.{Event}
 use Rattle.records.specs.Records.{record_at, observation_of, observed, observations}
 use Rattle.walk.specs.Choices.{event_of, slot, choices_in, Possible}
-use Rattle.walk.specs.Steps.{laid, laid_in, left_of, room_after, deeper}
-use Rattle.walk.specs.declared.Seen.TheVariants.{Found, Nothing, Spent}
-use Rattle.walk.proofs.Left.{Some, left_inside, room_inside}
+use Rattle.walk.specs.Steps.{laid, laid_in, an_end, no_end, left_of, room_after, deeper}
+use Rattle.walk.proofs.Left.{SomePoint, left_inside, room_inside}
 use Rattle.walk.proofs.Sets.{lowest_first, none_in_empty, set_of_children}
+use Rattle.walk.specs.declared.Stop.TheVariants.{Spent}
 
 -- ---- the observations of a body
 
@@ -45,13 +46,13 @@ unfolding walked deeper service
 walked_is n zero s obs = refl
 walked_is n (suc d) s obs = refl
 
-some_of : (n : ℕ) (w : Walked Event) → 0 < needed w → Some n w
+some_of : (n : ℕ) (w : Walked Event) → 0 < needed w → SomePoint n w
 unfolding needed
 some_of n (found k es) h = h
 some_of n (endless k) h = h
 some_of n (stopped k) h = tt
 
-pub deeper_some : (n d : ℕ) (s : State) (c : Choice Observation Event) → Some n (deeper n d s c)
+pub deeper_some : (n d : ℕ) (s : State) (c : Choice Observation Event) → SomePoint n (deeper n d s c)
 unfolding deeper
 deeper_some n zero s c = tt
 deeper_some n (suc d) s c = some_of n (walked (service n) d (then s c.event) c.left) (some_point (service n) d (then s c.event) c.left)
@@ -59,13 +60,13 @@ deeper_some n (suc d) s c = some_of n (walked (service n) d (then s c.event) c.l
 -- ---- a visit
 
 -- at an end
-pub end_left : (n d b : ℕ) (s : State) (body : List ℕ) → length body < 12 → Found b 0 ≡ left_of (b + 1) (walked (service n) d s (observations body))
+pub end_left : (n d b : ℕ) (s : State) (body : List ℕ) → length body < 12 → an_end b 0 ≡ left_of (b + 1) (walked (service n) d s (observations body))
 unfolding left_of visited
 end_left n d b s body h =
     let e : b ≡ b + 1 - 1 = omega arith in
     sym (ap (λ (obs : List Observation). left_of (b + 1) (walked (service n) d s obs)) (observed_end body h)
     ∙ ap (left_of (b + 1)) (walked_is n d s [])
-    ∙ ap (λ (t : Bool). cond t (Found (b + 1 - 1) 0) Spent) (le-leb 1 (b + 1) (omega arith)) ∙ ap (λ (x : ℕ). Found x 0) (sym e))
+    ∙ ap (λ (t : Bool). cond t (an_end (b + 1 - 1) 0) (Err Spent)) (le-leb 1 (b + 1) (omega arith)) ∙ ap (λ (x : ℕ). an_end x 0) (sym e))
 
 pub end_room : (n d b : ℕ) (s : State) (body room : List ℕ) → length body < 12 → room ≡ room_after (b + 1) (walked (service n) d s (observations body)) room
 unfolding room_after visited laid_in laid
@@ -108,9 +109,9 @@ pub none_at_end : (n d set : ℕ) (s : State) (body : List ℕ) → length body 
 unfolding tried choices_in
 none_at_end n d set s body h = ap (λ (obs : List Observation). tried (service n) (deeper n d s) (choices_in set obs)) (observed_end body h)
 
-pub left_none : (b : ℕ) → Nothing b ≡ left_of b (endless 0)
+pub left_none : (b : ℕ) → no_end b ≡ left_of b (endless 0)
 unfolding left_of
-left_none b = let e : b ≡ b - 0 = omega arith in sym (ap (λ (t : Bool). cond t (Nothing (b - 0)) Spent) (le-leb 0 b (omega arith)) ∙ ap Nothing (sym e))
+left_none b = let e : b ≡ b - 0 = omega arith in sym (ap (λ (t : Bool). cond t (no_end (b - 0)) (Err Spent)) (le-leb 0 b (omega arith)) ∙ ap no_end (sym e))
 
 -- the lowest choice first, then the others
 pub lowest_tried : (n d set : ℕ) (s : State) (body : List ℕ) → 12 ≤ length body → set < 2 ^ 64 → 0 < set

@@ -6,6 +6,7 @@ use mathlib.Core.Path.{◌≡◌, refl, sym, ap, ap₂, ◌∙◌, subst}
 use Prim.Native.Nat.{ℕ, ◌+◌, ◌-◌, ◌*◌, ◌/◌, ◌≤◌, ◌<◌, ◌^◌}
 use native.Mathlib.Nat.{le_of_eq, mul-add}
 use native.Mathlib.Omega.{arith}
+use Rattle.std.proofs.Common.{Some, None, Result, Ok, Err}
 use lib.Dec.{leb, ltb, eqb}
 use lib.ListN.{length, get_or, take, drop, set as set', length-drop, take-append-drop, drop_of_length-le}
 use lib.Seq.{take_all}
@@ -20,12 +21,13 @@ use Rattle.model.specs.declared.Observation.{Observation}
 use Rattle.model.specs.declared.Event.{Event}
 use Rattle.records.specs.Records.{record_at, observation_of, observations}
 use Rattle.walk.specs.Choices.{event_of, slot, choices_in}
-use Rattle.walk.specs.Steps.{event_bytes, left_of, room_after, deeper}
-use Rattle.walk.specs.declared.Seen.{Seen}
-use Rattle.walk.specs.declared.Seen.TheVariants.{Found, Nothing, Spent, Deep}
+use Rattle.walk.specs.Steps.{event_bytes, an_end, no_end, left_of, room_after, deeper}
 use Rattle.walk.proofs.Events.{two_bytes}
-use Rattle.walk.proofs.Left.{neither, nothing_left, too_deep, step_found, step_none, step_none_room, step_spent, step_deep, Endless, room_kept, room_found}
+use Rattle.walk.proofs.Left.{an_end_is, no_end_is, same_end, one_of_two, neither, nothing_left, too_deep, step_found, step_none, step_none_room, step_stopped, Endless, room_kept, room_found}
 use Rattle.walk.proofs.Visits.{deeper_some, none_to_try, none_at_end, left_none, lowest_tried, child_walk, child_deep}
+use Rattle.walk.specs.declared.Seen.{Seen}
+use Rattle.walk.specs.declared.Stop.{Stop}
+use Rattle.walk.specs.declared.Stop.TheVariants.{Spent, Deep}
 
 -- ---- parts of a slice, to its end
 
@@ -43,19 +45,19 @@ abbrev pub trying : ℕ → State → ℕ → List ℕ → List ℕ → Walked E
 trying n s set body room = tried (service n) (deeper n (length room / 2) s) (choices_in set (observations body))
 
 -- what is handed back, and what the room then is
-abbrev pub Hands : ℕ → Walked Event → List ℕ → Seen → List ℕ → Type 0
+abbrev pub Hands : ℕ → Walked Event → List ℕ → Result Seen Stop → List ℕ → Type 0
 Hands b w room seen last = (seen ≡ left_of b w) × (last ≡ room_after b w room)
 
 module _ (n b set : ℕ) (s : State) (body room : List ℕ) where
   -- nothing to try
-  nothing_tried : trying n s set body room ≡ endless 0 → Hands b (trying n s set body room) room (Nothing b) room
+  nothing_tried : trying n s set body room ≡ endless 0 → Hands b (trying n s set body room) room (no_end b) room
   unfolding room_after
   nothing_tried h = (left_none b ∙ ap (left_of b) (sym h), ap (λ (w : Walked Event). room_after b w room) (sym h))
 
-  pub at_end : length body < 12 → Hands b (trying n s set body room) room (Nothing b) room
+  pub at_end : length body < 12 → Hands b (trying n s set body room) room (no_end b) room
   at_end h = nothing_tried (none_at_end n (length room / 2) set s body h)
 
-  pub no_choice : set ≡ 0 → Hands b (trying n s set body room) room (Nothing b) room
+  pub no_choice : set ≡ 0 → Hands b (trying n s set body room) room (no_end b) room
   no_choice h = nothing_tried (none_to_try n (length room / 2) set s (observations body) h)
 
   module _ (long : 12 ≤ length body) (fits : set < 2 ^ 64) (some : set ≡ 0 → ⊥) where
@@ -76,30 +78,30 @@ module _ (n b set : ℕ) (s : State) (body room : List ℕ) where
     first_then_rest = lowest_tried n (length room / 2) set s body long fits (omega arith)
 
     -- whatever the whole comes to, it is handed back
-    hand : (seen : Seen) (last : List ℕ) → left_of b (or_else (service n) (event_of p o) child rest) ≡ seen
+    hand : (seen : Result Seen Stop) (last : List ℕ) → left_of b (or_else (service n) (event_of p o) child rest) ≡ seen
         → last ≡ room_after b (or_else (service n) (event_of p o) child rest) room → Hands b (trying n s set body room) room seen last
     hand seen last e g =
         (sym (ap (left_of b) first_then_rest ∙ e), g ∙ ap (λ (w : Walked Event). room_after b w room) (sym first_then_rest))
 
     -- no end comes back: the room is as it was
-    hand_endless : (seen : Seen) → Endless seen → left_of b (or_else (service n) (event_of p o) child rest) ≡ seen → Hands b (trying n s set body room) room seen room
+    hand_endless : (seen : Result Seen Stop) → Endless seen → left_of b (or_else (service n) (event_of p o) child rest) ≡ seen → Hands b (trying n s set body room) room seen room
     hand_endless seen q e =
         hand seen room e (sym (room_kept b (or_else (service n) (event_of p o) child rest) room (subst Endless (sym e) q)))
 
-    pub budget_spent : b ≡ 0 → Hands b (trying n s set body room) room Spent room
+    pub budget_spent : b ≡ 0 → Hands b (trying n s set body room) room (Err Spent) room
     unfolding child
     budget_spent z =
-        hand_endless Spent tt
+        hand_endless (Err Spent) tt
         (ap (λ (x : ℕ). left_of x (or_else (service n) (event_of p o) child rest)) z ∙ nothing_left n (event_of p o) child rest (deeper_some n (length room / 2) s _))
 
-    pub no_room : (b ≡ 0 → ⊥) → length room < 2 → Hands b (trying n s set body room) room Deep room
+    pub no_room : (b ≡ 0 → ⊥) → length room < 2 → Hands b (trying n s set body room) room (Err Deep) room
     unfolding child
     no_room z m =
-        hand_endless Deep tt
+        hand_endless (Err Deep) tt
         (ap (λ (w : Walked Event). left_of b (or_else (service n) (event_of p o) w rest)) (child_deep n s _ room m) ∙ too_deep n b (event_of p o) rest (omega arith))
 
     -- the child has been visited: what it handed back, and what it left of its part of the room
-    module _ (left : b ≡ 0 → ⊥) (room_left : 2 ≤ length room) (pick skip : ℕ) (next : State) (seen : Seen) (last : List ℕ)
+    module _ (left : b ≡ 0 → ⊥) (room_left : 2 ≤ length room) (pick skip : ℕ) (next : State) (seen : Result Seen Stop) (last : List ℕ)
         (is_pick : pick ≡ lowest 64 set)
         (is_next : next ≡ then s (event_of pick (observation_of (record_at body 0))))
         (is_skip : skip ≡ cond (eqb pick 0) 12 0)
@@ -131,35 +133,32 @@ module _ (n b set : ℕ) (s : State) (body room : List ℕ) where
       pub same_room : Endless seen → after_visit ≡ room
       same_room q = put ∙ ap (λ (l : List ℕ). take 2 room ++ l) (room_kept b child (drop 2 room) (subst Endless child_seen q)) ∙ take-append-drop 2 room
 
-      pub end_found : (l k kind tablet : ℕ) → seen ≡ Found l k → kind ≡ get_or (event_bytes (event_of pick (observation_of (record_at body 0)))) 0 0
+      pub end_found : (v : Seen) (k kind tablet : ℕ) → seen ≡ Ok v → v.events ≡ Some k
+          → kind ≡ get_or (event_bytes (event_of pick (observation_of (record_at body 0)))) 0 0
           → tablet ≡ get_or (event_bytes (event_of pick (observation_of (record_at body 0)))) 1 0
-          → Hands b (trying n s set body room) room (Found l (k + 1)) (set' (set' after_visit 0 kind) 1 tablet)
+          → Hands b (trying n s set body room) room (an_end v.left (k + 1)) (set' (set' after_visit 0 kind) 1 tablet)
       unfolding p o
-      end_found l k kind tablet e g h =
-          let c = sym child_seen ∙ e in
-          hand (Found l (k + 1)) _ (step_found n b l k (event_of p o) child rest c)
+      end_found v k kind tablet is_ok is_end g h =
+          let c = sym child_seen ∙ is_ok ∙ an_end_is v k is_end in
+          hand (an_end v.left (k + 1)) _ (step_found n b v.left k (event_of p o) child rest c)
           (ap (λ (r : List ℕ). set' (set' r 0 kind) 1 tablet) put
-          ∙ room_found n b l k (event_of p o) child rest kind tablet room
+          ∙ room_found n b v.left k (event_of p o) child rest kind tablet room
           (ap (λ (x : ℕ). event_bytes (event_of x (observation_of (record_at body 0)))) (sym is_pick) ∙ two_bytes (event_of pick (observation_of (record_at body 0))) ∙ ap₂ (λ (x y : ℕ). x ∷ y ∷ []) (sym g) (sym h)) c room_left)
 
-      pub others_tried : (l others : ℕ) (whole : Seen) (final : List ℕ) → seen ≡ Nothing l → others ≡ remove 64 set pick
-          → Hands l (trying n s others body after_visit) after_visit whole final → Hands b (trying n s set body room) room whole final
+      pub others_tried : (v : Seen) (others : ℕ) (whole : Result Seen Stop) (final : List ℕ) → seen ≡ Ok v → v.events ≡ None → others ≡ remove 64 set pick
+          → Hands v.left (trying n s others body after_visit) after_visit whole final → Hands b (trying n s set body room) room whole final
       unfolding p o rest
-      others_tried l others whole final e q h =
+      others_tried v others whole final is_ok is_none q h =
+          let e = is_ok ∙ no_end_is v is_none in
           let c = sym child_seen ∙ e in
-          let r = same_room (subst Endless (sym e) tt) in
+          let r = same_room (subst Endless (sym e) refl) in
           let w : trying n s others body after_visit ≡ rest = ap₂ (λ (x : ℕ) (y : List ℕ). trying n s x body y) (q ∙ ap (remove 64 set) is_pick) r in
-          hand whole final (step_none n b l (event_of p o) child rest c ∙ ap (left_of l) (sym w) ∙ sym h.0)
-          (h.1 ∙ ap₂ (room_after l) w r ∙ sym (step_none_room n b l (event_of p o) child rest room c))
+          hand whole final (step_none n b v.left (event_of p o) child rest c ∙ ap (left_of v.left) (sym w) ∙ sym h.0)
+          (h.1 ∙ ap₂ (room_after v.left) w r ∙ sym (step_none_room n b v.left (event_of p o) child rest room c))
 
-      pub spent_on : seen ≡ Spent → Hands b (trying n s set body room) room Spent after_visit
-      spent_on e =
-          let g = hand_endless Spent tt (step_spent n b (event_of p o) child rest (sym child_seen ∙ e)) in
-          (g.0, same_room (subst Endless (sym e) tt) ∙ g.1)
-
-      pub deep_on : seen ≡ Deep → Hands b (trying n s set body room) room Deep after_visit
-      deep_on e =
-          let g = hand_endless Deep tt (step_deep n b (event_of p o) child rest (sym child_seen ∙ e)) in
+      pub stopped_on : (stop : Stop) → seen ≡ Err stop → Hands b (trying n s set body room) room (Err stop) after_visit
+      stopped_on stop e =
+          let g = hand_endless (Err stop) tt (step_stopped n b stop (event_of p o) child rest (sym child_seen ∙ e)) in
           (g.0, same_room (subst Endless (sym e) tt) ∙ g.1)
 
 -- ---- events fall at each visit, choices at each further choice
@@ -191,18 +190,18 @@ skip_within skip true len e h = rw e h
 skip_within skip false len e h = rw e (omega arith)
 
 -- the number of events is that of a room's pairs at most
-pub events_few : (n d b l k : ℕ) (s : State) (obs : List Observation) (seen : Seen) → seen ≡ left_of b (walked (service n) d s obs) → seen ≡ Found l k → k ≤ d
+pub events_few : (n d b l k : ℕ) (s : State) (obs : List Observation) (seen : Result Seen Stop) → seen ≡ left_of b (walked (service n) d s obs) → seen ≡ an_end l k → k ≤ d
 unfolding left_of
 events_few n d b l k s obs seen e g = go (walked (service n) d s obs) refl (sym e ∙ g)
   where
-    go : (w : Walked Event) → walked (service n) d s obs ≡ w → left_of b w ≡ Found l k → k ≤ d
+    go : (w : Walked Event) → walked (service n) d s obs ≡ w → left_of b w ≡ an_end l k → k ≤ d
     go (found j es) q h = inner (leb j b) h (found_within (service n) d s obs j es q)
       where
-        inner : (t : Bool) → cond t (Found (b - j) (length es)) Spent ≡ Found l k → length es ≤ d → k ≤ d
-        inner true x y = let z : length es ≡ k = cc in omega arith
-        inner false x y = let z : ◌≡◌ {A = ℕ} 0 1 = cc in absurd (omega arith)
-    go (endless j) q h = absurd (neither (leb j b) (Nothing (b - j)) Spent (Found l k) tt tt h)
-    go (stopped j) q h = absurd (neither (ltb j b) Deep Spent (Found l k) tt tt h)
+        inner : (t : Bool) → cond t (an_end (b - j) (length es)) (Err Spent) ≡ an_end l k → length es ≤ d → k ≤ d
+        inner true x y = let z = (same_end _ _ _ _ x).1 in omega arith
+        inner false x y = absurd cc
+    go (endless j) q h = absurd (neither (leb j b) (no_end (b - j)) (Err Spent) (an_end l k) (one_of_two _ _ _) (λ e. cc) h)
+    go (stopped j) q h = absurd (neither (ltb j b) (Err Deep) (Err Spent) (an_end l k) (λ e. cc) (λ e. cc) h)
 
 -- ---- lengths
 

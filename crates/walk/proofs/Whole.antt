@@ -7,6 +7,7 @@ use Prim.Native.Nat.{ℕ, zero, suc, ◌+◌, ◌-◌, ◌*◌, ◌/◌, ◌≤�
 use native.Mathlib.Nat.{mul-zero, div-lt_iff_lt-mul, add-zero, zero-add}
 use native.Mathlib.Decide.{dec_lt}
 use native.Mathlib.Omega.{arith}
+use Rattle.std.proofs.Common.{Result, Ok, Err}
 use lib.Dec.{leb, ltb}
 use lib.ListN.{length, take, drop, length-drop, take-append-drop}
 use lib.Seq.{drop-drop, drop-append-le, length-take-le}
@@ -23,12 +24,12 @@ use Rattle.records.specs.Records.{record_at, observation_of, observed, observati
 use Rattle.records.proofs.Parts.{record_drop}
 use Rattle.records.specs.declared.Record.{Record}
 use Rattle.walk.specs.Choices.{choices_in, Possible}
-use Rattle.walk.specs.Steps.{laid, laid_in, left_of, room_after, deeper, answer_of, outcome_in, answered, room_answered}
-use Rattle.walk.specs.declared.Seen.{Seen}
-use Rattle.walk.specs.declared.Seen.TheVariants.{Found, Nothing, Spent, Deep}
-use Rattle.walk.specs.declared.Answer.{Answer}
-use Rattle.walk.specs.declared.Answer.TheVariants.{Explained, Unexplained, Undecided, TooDeep, NoRoom}
+use Rattle.walk.specs.Steps.{laid, laid_in, left_of, room_after, deeper, an_end, no_end, first_end, none_in, answer_of, outcome_in, answered, room_answered}
 use Rattle.walk.proofs.Visits.{observed_on, observed_end, end_left, end_room, visit_left, visit_room}
+use Rattle.walk.specs.declared.Seen.{Seen}
+use Rattle.walk.specs.declared.Stop.{Stop}
+use Rattle.walk.specs.declared.Walked.{Walked as Told}
+use Rattle.walk.specs.declared.Stop.TheVariants.{Spent, Deep, NoRoom}
 
 -- ---- the observations and the writes of a body
 
@@ -103,31 +104,29 @@ by_writes n t w room h e =
 
 -- ---- the answer
 
-abbrev pub Answers : ℕ → Walked Event → List ℕ → Answer → List ℕ → Type 0
+abbrev pub Answers : ℕ → Walked Event → List ℕ → Result Told Stop → List ℕ → Type 0
 Answers b w room answer last = (answer ≡ answer_of (cut b w)) × (last ≡ outcome_in (cut b w) room)
 
 -- what is left of the budget, told as an answer
-abbrev pub answer_by : ℕ → Seen → Answer
-answer_by b (Found l k) = Explained (b - l) k
-answer_by b (Nothing l) = Unexplained (b - l)
-answer_by b Spent = Undecided
-answer_by b Deep = TooDeep
+abbrev pub answer_by : ℕ → Result Seen Stop → Result Told Stop
+answer_by b (Ok s) = Ok (record { points = b - s.left; events = s.events })
+answer_by b (Err stop) = Err stop
 
 pub told_by : (b : ℕ) (w : Walked Event) → answer_by b (left_of b w) ≡ answer_of (cut b w)
 unfolding left_of cut answer_of
 told_by b (found k es) = go (leb k b) refl
   where
-    go : (t : Bool) → leb k b ≡ t → answer_by b (cond t (Found (b - k) (length es)) Spent) ≡ answer_of (cond t (explained k es) (undecided b))
-    go true e = let h = leb-true k b e in let q : b - (b - k) ≡ k = omega arith in ap (λ (x : ℕ). Explained x (length es)) q
+    go : (t : Bool) → leb k b ≡ t → answer_by b (cond t (an_end (b - k) (length es)) (Err Spent)) ≡ answer_of (cond t (explained k es) (undecided b))
+    go true e = let h = leb-true k b e in let q : b - (b - k) ≡ k = omega arith in ap (λ (x : ℕ). first_end x (length es)) q
     go false e = refl
 told_by b (endless k) = go (leb k b) refl
   where
-    go : (t : Bool) → leb k b ≡ t → answer_by b (cond t (Nothing (b - k)) Spent) ≡ answer_of (cond t (unexplained k) (undecided b))
-    go true e = let h = leb-true k b e in let q : b - (b - k) ≡ k = omega arith in ap (λ (x : ℕ). Unexplained x) q
+    go : (t : Bool) → leb k b ≡ t → answer_by b (cond t (no_end (b - k)) (Err Spent)) ≡ answer_of (cond t (unexplained k) (undecided b))
+    go true e = let h = leb-true k b e in let q : b - (b - k) ≡ k = omega arith in ap none_in q
     go false e = refl
 told_by b (stopped k) = go (ltb k b)
   where
-    go : (t : Bool) → answer_by b (cond t Deep Spent) ≡ answer_of (cond t too_deep (undecided b))
+    go : (t : Bool) → answer_by b (cond t (Err Deep) (Err Spent)) ≡ answer_of (cond t too_deep (undecided b))
     go true = refl
     go false = refl
 
@@ -169,28 +168,28 @@ module _ (n budget : ℕ) (body room : List ℕ) (writes_in : ℕ) (counted : wr
   unfolding depth
   is_depth = ap₂ (λ (t w : ℕ). 2 * (t + n * w)) (observations_length body) (sym counted)
 
-  abbrev pub Done : Answer → List ℕ → Type 0
+  abbrev pub Done : Result Told Stop → List ℕ → Type 0
   Done answer last = (answer ≡ answered n obs budget (length room)) × (last ≡ room_answered n obs budget room)
 
-  pub short : ltb (length room) limit ≡ true → Done NoRoom room
+  pub short : ltb (length room) limit ≡ true → Done (Err NoRoom) room
   unfolding answered room_answered
   short h = (rw (is_depth, h), rw (is_depth, h))
 
   module _ (enough : ltb (length room) limit ≡ false) where
-    done : (answer : Answer) (last : List ℕ) → answer ≡ answer_of (outcome n obs budget) → last ≡ outcome_in (outcome n obs budget) room → Done answer last
+    done : (answer : Result Told Stop) (last : List ℕ) → answer ≡ answer_of (outcome n obs budget) → last ≡ outcome_in (outcome n obs budget) room → Done answer last
     unfolding answered room_answered
     done answer last e g = (rw (is_depth, enough) e, rw (is_depth, enough) g)
 
-    pub no_budget : budget ≡ 0 → Done Undecided room
+    pub no_budget : budget ≡ 0 → Done (Err Spent) room
     unfolding outcome answer_of outcome_in walk
     no_budget z =
         let c : cut budget (walk n obs) ≡ undecided 0 = ap (λ (b : ℕ). cut b (walk n obs)) z ∙ none_for_nothing (walk n obs) (some_point (service n) (depth n obs) (first_state n) obs) in
-        done Undecided room (ap answer_of (sym c)) (ap (λ (x : Outcome Event). outcome_in x room) (sym c))
+        done (Err Spent) room (ap answer_of (sym c)) (ap (λ (x : Outcome Event). outcome_in x room) (sym c))
 
     pub fits : limit ≤ length room
     fits = ltb-false (length room) limit enough
 
-    from_first : (budget ≡ 0 → ⊥) → (seen : Seen) (last : List ℕ)
+    from_first : (budget ≡ 0 → ⊥) → (seen : Result Seen Stop) (last : List ℕ)
         → seen ≡ left_of (budget - 1 + 1) (walked (service n) (length (take (limit - 0) (drop 0 room)) / 2) (first_state n) obs)
         → last ≡ room_after (budget - 1 + 1) (walked (service n) (length (take (limit - 0) (drop 0 room)) / 2) (first_state n) obs) (take (limit - 0) (drop 0 room))
         → Done (answer_by budget seen) (take 0 room ++ (last ++ drop (limit - 0) (drop 0 room)))
@@ -209,51 +208,46 @@ module _ (n budget : ℕ) (body room : List ℕ) (writes_in : ℕ) (counted : wr
         (λ k es q. let f = found_within (service n) (depth n obs) (first_state n) obs k es q in let i = is_depth in omega arith))
 
     -- the root is an end
-    pub root_end : (budget ≡ 0 → ⊥) → length body < 12 → Done (Explained 1 0) room
+    pub root_end : (budget ≡ 0 → ⊥) → length body < 12 → Done (first_end 1 0) room
     root_end z h =
         let part = take (limit - 0) (drop 0 room) in
-        let e = from_first z (Found (budget - 1) 0) part (end_left n (length part / 2) (budget - 1) (first_state n) body h) (end_room n (length part / 2) (budget - 1) (first_state n) body part h) in
+        let e = from_first z (an_end (budget - 1) 0) part (end_left n (length part / 2) (budget - 1) (first_state n) body h) (end_room n (length part / 2) (budget - 1) (first_state n) body part h) in
         let one : budget - (budget - 1) ≡ 1 = omega arith in
-        (ap (λ (x : ℕ). Explained x 0) (sym one) ∙ e.0, sym (take-append-drop (limit - 0) room) ∙ e.1)
+        (ap (λ (x : ℕ). first_end x 0) (sym one) ∙ e.0, sym (take-append-drop (limit - 0) room) ∙ e.1)
 
     -- the root's choices have been tried
-    pub root_tried : (budget ≡ 0 → ⊥) → 12 ≤ length body → (s : State) → s ≡ first_state n → (set : ℕ) → Possible n s (observation_of (record_at body 0)) set → (seen known : Seen) (last : List ℕ)
-        → seen ≡ left_of (budget - 1) (tried (service n) (deeper n (length (take (limit - 0) (drop 0 room)) / 2) s) (choices_in set obs))
-        → last ≡ room_after (budget - 1) (tried (service n) (deeper n (length (take (limit - 0) (drop 0 room)) / 2) s) (choices_in set obs)) (take (limit - 0) (drop 0 room))
+    pub root_tried : (budget ≡ 0 → ⊥) → 12 ≤ length body → (s : State) → s ≡ first_state n → (set : ℕ) → Possible n s (observation_of (record_at body 0)) set → (left : ℕ) → left ≡ budget - 1 → (seen known : Result Seen Stop) (last : List ℕ)
+        → seen ≡ left_of left (tried (service n) (deeper n (length (take (limit - 0) (drop 0 room)) / 2) s) (choices_in set obs))
+        → last ≡ room_after left (tried (service n) (deeper n (length (take (limit - 0) (drop 0 room)) / 2) s) (choices_in set obs)) (take (limit - 0) (drop 0 room))
         → seen ≡ known → Done (answer_by budget known) (take 0 room ++ (last ++ drop (limit - 0) (drop 0 room)))
-    root_tried z long s q set p seen known last e g h =
+    root_tried z long s q set p left m seen known last e g h =
         let part = take (limit - 0) (drop 0 room) in
-        subst (λ (x : Seen). Done (answer_by budget x) (take 0 room ++ (last ++ drop (limit - 0) (drop 0 room)))) h
-        (from_first z seen last (e ∙ visit_left n (length part / 2) set (budget - 1) s body long p ∙ ap (λ (x : State). left_of (budget - 1 + 1) (walked (service n) (length part / 2) x obs)) q)
-        (g ∙ visit_room n (length part / 2) set (budget - 1) s body part long p ∙ ap (λ (x : State). room_after (budget - 1 + 1) (walked (service n) (length part / 2) x obs) part) q))
+        subst (λ (x : Result Seen Stop). Done (answer_by budget x) (take 0 room ++ (last ++ drop (limit - 0) (drop 0 room)))) h
+        (from_first z seen last (e ∙ ap (λ (x : ℕ). left_of x (tried (service n) (deeper n (length part / 2) s) (choices_in set obs))) m ∙ visit_left n (length part / 2) set (budget - 1) s body long p ∙ ap (λ (x : State). left_of (budget - 1 + 1) (walked (service n) (length part / 2) x obs)) q)
+        (g ∙ ap (λ (x : ℕ). room_after x (tried (service n) (deeper n (length part / 2) s) (choices_in set obs)) part) m ∙ visit_room n (length part / 2) set (budget - 1) s body part long p ∙ ap (λ (x : State). room_after (budget - 1 + 1) (walked (service n) (length part / 2) x obs) part) q))
 
 -- what is left is no more than there was
-abbrev Left : ℕ → Seen → Type 0
-Left b (Found l k) = l ≤ b
-Left b (Nothing l) = l ≤ b
-Left b Spent = Unit {0}
-Left b Deep = Unit {0}
+abbrev Left : ℕ → Result Seen Stop → Type 0
+Left b (Ok s) = s.left ≤ b
+Left b (Err stop) = Unit {0}
 
 left_few : (b : ℕ) (w : Walked Event) → Left b (left_of b w)
 unfolding left_of
 left_few b (found k es) = go (leb k b)
   where
-    go : (t : Bool) → Left b (cond t (Found (b - k) (length es)) Spent)
+    go : (t : Bool) → Left b (cond t (an_end (b - k) (length es)) (Err Spent))
     go true = omega arith
     go false = tt
 left_few b (endless k) = go (leb k b)
   where
-    go : (t : Bool) → Left b (cond t (Nothing (b - k)) Spent)
+    go : (t : Bool) → Left b (cond t (no_end (b - k)) (Err Spent))
     go true = omega arith
     go false = tt
 left_few b (stopped k) = go (ltb k b)
   where
-    go : (t : Bool) → Left b (cond t Deep Spent)
+    go : (t : Bool) → Left b (cond t (Err Deep) (Err Spent))
     go true = tt
     go false = tt
 
-pub found_left : (b l k : ℕ) (seen : Seen) (w : Walked Event) → seen ≡ left_of (b - 1) w → seen ≡ Found l k → l ≤ b
-found_left b l k seen w e g = let h = subst (Left (b - 1)) (sym e ∙ g) (left_few (b - 1) w) in omega arith
-
-pub nothing_left : (b l : ℕ) (seen : Seen) (w : Walked Event) → seen ≡ left_of (b - 1) w → seen ≡ Nothing l → l ≤ b
-nothing_left b l seen w e g = let h = subst (Left (b - 1)) (sym e ∙ g) (left_few (b - 1) w) in omega arith
+pub few_left : (b l : ℕ) (r : Result Seen Stop) (w : Walked Event) (s : Seen) → l ≤ b → r ≡ left_of l w → r ≡ Ok s → s.left ≤ b
+few_left b l r w s few e g = let h : s.left ≤ l = subst (Left l) (sym e ∙ g) (left_few l w) in omega arith

@@ -1,5 +1,5 @@
 -- What a visit hands back: what is left of the budget, and the events in the room.
-use Rattle.std.specs.Prelude.{ℕ, zero, suc, ◌-◌, ◌*◌, cond, List, [], ◌∷◌, ◌++◌, leb, ltb, length, drop}
+use Rattle.std.specs.Prelude.{ℕ, zero, suc, ◌-◌, ◌*◌, cond, List, [], ◌∷◌, ◌++◌, leb, ltb, length, drop, Some, None, Result, Ok, Err}
 use Rattle.model.specs.Walk.{Choice, Walked, found, endless, stopped, walked, Outcome, explained, unexplained, undecided, too_deep}
 use Rattle.model.specs.Model.{service, then, depth, outcome}
 use Rattle.model.specs.declared.State.{State}
@@ -8,9 +8,9 @@ use Rattle.model.specs.declared.Observation.TheVariants.{Read, Write, Stabilize,
 use Rattle.model.specs.declared.Event.{Event}
 use Rattle.model.specs.declared.Event.TheVariants.{Observed, Up, Down}
 use Rattle.walk.specs.declared.Seen.{Seen}
-use Rattle.walk.specs.declared.Seen.TheVariants.{Found, Nothing, Spent, Deep}
-use Rattle.walk.specs.declared.Answer.{Answer}
-use Rattle.walk.specs.declared.Answer.TheVariants.{Explained, Unexplained, Undecided, TooDeep, NoRoom}
+use Rattle.walk.specs.declared.Walked.{Walked as Told}
+use Rattle.walk.specs.declared.Stop.{Stop}
+use Rattle.walk.specs.declared.Stop.TheVariants.{Spent, Deep, NoRoom}
 
 -- ---- events in the room
 
@@ -34,11 +34,18 @@ laid_in es room = laid es ++ drop (2 * length es) room
 
 -- ---- within a budget
 
+-- what a visit says that was not stopped: an end so many events from here, or no end
+abbrev pub an_end : ℕ → ℕ → Result Seen Stop
+an_end left events = Ok (record { left = left; events = Some events })
+
+abbrev pub no_end : ℕ → Result Seen Stop
+no_end left = Ok (record { left = left; events = None })
+
 -- what is left of a budget of b points after a walk
-unfoldable pub left_of : ℕ → Walked Event → Seen
-left_of b (found k es) = cond (leb k b) (Found (b - k) (length es)) Spent
-left_of b (endless k) = cond (leb k b) (Nothing (b - k)) Spent
-left_of b (stopped k) = cond (ltb k b) Deep Spent
+unfoldable pub left_of : ℕ → Walked Event → Result Seen Stop
+left_of b (found k es) = cond (leb k b) (an_end (b - k) (length es)) (Err Spent)
+left_of b (endless k) = cond (leb k b) (no_end (b - k)) (Err Spent)
+left_of b (stopped k) = cond (ltb k b) (Err Deep) (Err Spent)
 
 -- the room after it: only a found end is written
 unfoldable pub room_after : ℕ → Walked Event → List ℕ → List ℕ
@@ -54,11 +61,18 @@ deeper n (suc d) s c = walked (service n) d (then s c.event) c.left
 
 -- ---- the answer
 
-unfoldable pub answer_of : Outcome Event → Answer
-answer_of (explained k es) = Explained k (length es)
-answer_of (unexplained k) = Unexplained k
-answer_of (undecided b) = Undecided
-answer_of too_deep = TooDeep
+-- what a walk says that was not stopped: an end after so many points, or none in all of them
+abbrev pub first_end : ℕ → ℕ → Result Told Stop
+first_end points events = Ok (record { points = points; events = Some events })
+
+abbrev pub none_in : ℕ → Result Told Stop
+none_in points = Ok (record { points = points; events = None })
+
+unfoldable pub answer_of : Outcome Event → Result Told Stop
+answer_of (explained k es) = first_end k (length es)
+answer_of (unexplained k) = none_in k
+answer_of (undecided b) = Err Spent
+answer_of too_deep = Err Deep
 
 unfoldable pub outcome_in : Outcome Event → List ℕ → List ℕ
 unfolding laid_in
@@ -68,9 +82,9 @@ outcome_in (undecided b) room = room
 outcome_in too_deep room = room
 
 -- room for the explanation is 2·(T + n·W) bytes, or there is no walk
-unfoldable pub answered : ℕ → List Observation → ℕ → ℕ → Answer
+unfoldable pub answered : ℕ → List Observation → ℕ → ℕ → Result Told Stop
 unfolding answer_of
-answered n obs budget room = cond (ltb room (2 * depth n obs)) NoRoom (answer_of (outcome n obs budget))
+answered n obs budget room = cond (ltb room (2 * depth n obs)) (Err NoRoom) (answer_of (outcome n obs budget))
 
 unfoldable pub room_answered : ℕ → List Observation → ℕ → List ℕ → List ℕ
 unfolding outcome_in

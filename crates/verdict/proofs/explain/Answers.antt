@@ -1,36 +1,40 @@
 -- `verdict::explain` meets its contract: a refusal, or what the walk of the asked body says.
 -- Assumes nothing.
-use mathlib.Core.Path.{refl}
-use Rattle.tracefile.proofs.Good.{is_accepted}
-use Rattle.verdict.proofs.Calls.{file_refused, walk_said, events_small, second_byte}
+use mathlib.Core.Path.{refl, ap, ◌∙◌}
+use Rattle.std.proofs.Common.{Err}
+use Rattle.std.proofs.lemmas.Result.{err_from_is_err_and}
+use Rattle.verdict.specs.Judged.{told}
+use Rattle.verdict.proofs.Calls.{first_end_is, none_in_is, file_refused, walk_said, events_small, second_byte}
 use Rattle.verdict.proofs.explain.Goals as goal
 
-pub returns-in-Refused : goal.returns-in-Refused
-returns-in-Refused c =
-    let both = file_refused _ _ _ _ _ _ c.check_asked.ensures c.in-Refused.is in record { result = both.0; room = both.1 }
+pub returns-in_err-body : goal.returns-in_err-body
+returns-in_err-body c =
+    let both = file_refused _ _ c.args.budget c.args.room.now _ c.in_err-body.ensures.refusal in
+    let p = err_from_is_err_and c.from_residual.result c.from_residual.ensures.1 in
+    record { result = ap told (p.1 ∙ ap Err p.2) ∙ both.0; room = both.1 }
 
 pub bounds-file-1 : goal.bounds-file-1
-bounds-file-1 c = second_byte _ c.args.trace (is_accepted _ _ _ c.check_asked.ensures c.in-Good.is)
+bounds-file-1 c = second_byte _ c.args.trace c.in_ok-body.ensures.body.0
 
 pub overflow_cast-result : goal.overflow_cast-result
-overflow_cast-result c = record { fits = events_small _ _ _ _ _ _ _ _ _ (is_accepted _ _ _ c.check_asked.ensures c.in-Good.is) refl c.asked_body.ensures c.walk.ensures.result c.in-Explained.is }
+overflow_cast-result c = record { fits = events_small _ _ _ _ _ _ _ _ _ c.in_ok-body.ensures.body.0 refl c.in_ok-body.ensures.body.1 c.walk.ensures.result (c.in-Ok.is ∙ first_end_is _ _ c.in-Some.is) }
 
-pub returns-in-Explained : goal.returns-in-Explained
-returns-in-Explained c =
-    let both = walk_said _ _ _ _ _ _ _ _ _ (is_accepted _ _ _ c.check_asked.ensures c.in-Good.is) refl c.asked_body.ensures c.walk.ensures.result c.walk.ensures.room c.in-Explained.is in record { result = both.0; room = both.1 }
+pub returns-in-Some : goal.returns-in-Some
+returns-in-Some c =
+    let both = walk_said _ _ _ _ _ _ _ _ _ c.in_ok-body.ensures.body.0 refl c.in_ok-body.ensures.body.1 c.walk.ensures.result c.walk.ensures.room (c.in-Ok.is ∙ first_end_is _ _ c.in-Some.is) in record { result = both.0; room = both.1 }
 
-pub returns-in-Unexplained : goal.returns-in-Unexplained
-returns-in-Unexplained c =
-    let both = walk_said _ _ _ _ _ _ _ _ _ (is_accepted _ _ _ c.check_asked.ensures c.in-Good.is) refl c.asked_body.ensures c.walk.ensures.result c.walk.ensures.room c.in-Unexplained.is in record { result = both.0; room = both.1 }
+pub returns-in-None : goal.returns-in-None
+returns-in-None c =
+    let both = walk_said _ _ _ _ _ _ _ _ _ c.in_ok-body.ensures.body.0 refl c.in_ok-body.ensures.body.1 c.walk.ensures.result c.walk.ensures.room (c.in-Ok.is ∙ none_in_is _ c.in-None.is) in record { result = both.0; room = both.1 }
 
-pub returns-in-Undecided : goal.returns-in-Undecided
-returns-in-Undecided c =
-    let both = walk_said _ _ _ _ _ _ _ _ _ (is_accepted _ _ _ c.check_asked.ensures c.in-Good.is) refl c.asked_body.ensures c.walk.ensures.result c.walk.ensures.room c.in-Undecided.is in record { result = both.0; room = both.1 }
+pub returns-in-Err-Spent : goal.returns-in-Err-Spent
+returns-in-Err-Spent c =
+    let both = walk_said _ _ _ _ _ _ _ _ _ c.in_ok-body.ensures.body.0 refl c.in_ok-body.ensures.body.1 c.walk.ensures.result c.walk.ensures.room (c.in-Err-Spent.is ∙ ap Err c.in-Err-Spent.field-0-is) in record { result = both.0; room = both.1 }
 
-pub returns-in-TooDeep : goal.returns-in-TooDeep
-returns-in-TooDeep c =
-    let both = walk_said _ _ _ _ _ _ _ _ _ (is_accepted _ _ _ c.check_asked.ensures c.in-Good.is) refl c.asked_body.ensures c.walk.ensures.result c.walk.ensures.room c.in-TooDeep.is in record { result = both.0; room = both.1 }
+pub returns-in-Err-Deep : goal.returns-in-Err-Deep
+returns-in-Err-Deep c =
+    let both = walk_said _ _ _ _ _ _ _ _ _ c.in_ok-body.ensures.body.0 refl c.in_ok-body.ensures.body.1 c.walk.ensures.result c.walk.ensures.room (c.in-Err-Deep.is ∙ ap Err c.in-Err-Deep.field-0-is) in record { result = both.0; room = both.1 }
 
-pub returns-in-NoRoom : goal.returns-in-NoRoom
-returns-in-NoRoom c =
-    let both = walk_said _ _ _ _ _ _ _ _ _ (is_accepted _ _ _ c.check_asked.ensures c.in-Good.is) refl c.asked_body.ensures c.walk.ensures.result c.walk.ensures.room c.in-NoRoom.is in record { result = both.0; room = both.1 }
+pub returns-in-Err-NoRoom : goal.returns-in-Err-NoRoom
+returns-in-Err-NoRoom c =
+    let both = walk_said _ _ _ _ _ _ _ _ _ c.in_ok-body.ensures.body.0 refl c.in_ok-body.ensures.body.1 c.walk.ensures.result c.walk.ensures.room (c.in-Err-NoRoom.is ∙ ap Err c.in-Err-NoRoom.field-0-is) in record { result = both.0; room = both.1 }
