@@ -84,7 +84,7 @@ fn choose(
     if room.len() < 2 {
         return Err(Stop::Deep);
     }
-    let pick = marks::lowest64(choices);
+    let pick = marks::lowest(choices);
     let next = after(body, state, pick);
     let skip = used(pick);
     let seen = visit(n, &body[skip..], next, left - 1, &mut room[2..])?;
@@ -98,7 +98,7 @@ fn choose(
             })
         }
         None => {
-            let others = marks::remove64(choices, pick);
+            let others = marks::remove(choices, pick);
             if others == 0 {
                 return Ok(seen);
             }

@@ -42,7 +42,7 @@ visit-returns t c =
 
 pub choose-returns-in_err-seen : goal.choose-returns-in_err-seen
 choose-returns-in_err-seen t c =
-    let both = stopped_on _ _ _ _ _ c.args.room.now c.if-body-lt12.false c.ranges.choices.fits c.if-choices-eq0.false (omega arith) c.if-room-lt2.false _ _ _ _ _ c.lowest64-pick.ensures c.after-next.ensures c.used-skip.ensures c.visit.ensures.result c.visit.ensures.room _ c.in_err-seen.was in
+    let both = stopped_on _ _ _ _ _ c.args.room.now c.if-body-lt12.false c.ranges.choices.fits c.if-choices-eq0.false (omega arith) c.if-room-lt2.false _ _ _ _ _ c.lowest-pick.ensures c.after-next.ensures c.used-skip.ensures c.visit.ensures.result c.visit.ensures.room _ c.in_err-seen.was in
     let p = err_from_is_err_and c.from_residual.result c.from_residual.ensures.1 in
     record { result = p.1 ∙ ap Err p.2 ∙ both.0; room = both.1 }
 
@@ -52,17 +52,17 @@ choose-overflow_add-result t c =
 
 pub choose-returns-in-Some : goal.choose-returns-in-Some
 choose-returns-in-Some t c =
-    let both = end_found _ _ _ _ _ c.args.room.now c.if-body-lt12.false c.ranges.choices.fits c.if-choices-eq0.false (omega arith) c.if-room-lt2.false _ _ _ _ _ c.lowest64-pick.ensures c.after-next.ensures c.used-skip.ensures c.visit.ensures.result c.visit.ensures.room _ _ _ _ c.in_ok-seen.was c.in-Some.is c.kind_at.ensures c.tablet_at.ensures in record { result = both.0; room = both.1 }
+    let both = end_found _ _ _ _ _ c.args.room.now c.if-body-lt12.false c.ranges.choices.fits c.if-choices-eq0.false (omega arith) c.if-room-lt2.false _ _ _ _ _ c.lowest-pick.ensures c.after-next.ensures c.used-skip.ensures c.visit.ensures.result c.visit.ensures.room _ _ _ _ c.in_ok-seen.was c.in-Some.is c.kind_at.ensures c.tablet_at.ensures in record { result = both.0; room = both.1 }
 
 pub choose-returns-then-others-eq0 : goal.choose-returns-then-others-eq0
 choose-returns-then-others-eq0 t c =
     let h = no_choice _ _ _ _ _ _ c.if-others-eq0.true in
-    let both = others_tried _ _ _ _ _ c.args.room.now c.if-body-lt12.false c.ranges.choices.fits c.if-choices-eq0.false (omega arith) c.if-room-lt2.false _ _ _ _ _ c.lowest64-pick.ensures c.after-next.ensures c.used-skip.ensures c.visit.ensures.result c.visit.ensures.room _ _ _ _ c.in_ok-seen.was c.in-None.is c.remove64-others.ensures (no_end_is _ c.in-None.is ∙ h.0, h.1) in record { result = both.0; room = both.1 }
+    let both = others_tried _ _ _ _ _ c.args.room.now c.if-body-lt12.false c.ranges.choices.fits c.if-choices-eq0.false (omega arith) c.if-room-lt2.false _ _ _ _ _ c.lowest-pick.ensures c.after-next.ensures c.used-skip.ensures c.visit.ensures.result c.visit.ensures.room _ _ _ _ c.in_ok-seen.was c.in-None.is c.remove-others.ensures (no_end_is _ c.in-None.is ∙ h.0, h.1) in record { result = both.0; room = both.1 }
 
 pub choose-choose-requires : goal.choose-choose-requires
 choose-choose-requires t c =
-    (choice_falls (2 ^ 64) _ _ _ _ t c.decreases (same_after c.args.room.now c.visit.new.room c.visit.auto.room) (fewer _ _ _ c.ranges.choices.fits c.if-choices-eq0.false c.lowest64-pick.ensures c.remove64-others.ensures), tt)
+    (choice_falls (2 ^ 64) _ _ _ _ t c.decreases (same_after c.args.room.now c.visit.new.room c.visit.auto.room) (fewer _ _ _ c.ranges.choices.fits c.if-choices-eq0.false c.lowest-pick.ensures c.remove-others.ensures), tt)
 
 pub choose-returns-else-others-eq0 : goal.choose-returns-else-others-eq0
 choose-returns-else-others-eq0 t c =
-    let both = others_tried _ _ _ _ _ c.args.room.now c.if-body-lt12.false c.ranges.choices.fits c.if-choices-eq0.false (omega arith) c.if-room-lt2.false _ _ _ _ _ c.lowest64-pick.ensures c.after-next.ensures c.used-skip.ensures c.visit.ensures.result c.visit.ensures.room _ _ _ _ c.in_ok-seen.was c.in-None.is c.remove64-others.ensures (c.choose.ensures.result, c.choose.ensures.room) in record { result = both.0; room = both.1 }
+    let both = others_tried _ _ _ _ _ c.args.room.now c.if-body-lt12.false c.ranges.choices.fits c.if-choices-eq0.false (omega arith) c.if-room-lt2.false _ _ _ _ _ c.lowest-pick.ensures c.after-next.ensures c.used-skip.ensures c.visit.ensures.result c.visit.ensures.room _ _ _ _ c.in_ok-seen.was c.in-None.is c.remove-others.ensures (c.choose.ensures.result, c.choose.ensures.room) in record { result = both.0; room = both.1 }
