@@ -29,16 +29,6 @@ one_of_two s t h =
     let f = and_true (fresh_at s t) (not (eqb (local_of s t) s.server)) h in
     ap (λ (b : Bool). not b && (not (eqb (local_of s t) s.server) && not (eqb (local_of s t) 0))) f.0
 
--- the tests as the code makes them
-pub wins_by : (s : State) (t : ℕ) (fresh b : Bool) (v : ℕ) → fresh ≡ fresh_at s t → v ≡ local_of s t → (fresh && not (eqb v s.server)) ≡ b → wins s t ≡ b
-unfolding wins
-wins_by s t fresh b v p q h = rw (← p, ← q) h
-
-pub joins_by : (s : State) (t : ℕ) (fresh b : Bool) (v : ℕ) → fresh ≡ fresh_at s t → v ≡ local_of s t
-    → (not fresh && (not (eqb v s.server) && not (eqb v 0))) ≡ b → joins s t ≡ b
-unfolding joins
-joins_by s t fresh b v p q h = rw (← p, ← q) h
-
 pub won : (s : State) (t : ℕ) → wins s t ≡ true → then s (Up t) ≡ uploaded s t s.conflicts (local_of s t) (only s.fresh (seat t))
 won s t h = by_tests s t true false h (one_of_two s t h)
 

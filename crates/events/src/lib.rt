@@ -1,6 +1,8 @@
-// When each event may happen, and what then holds, row by row of document 01's table, from the first state on. Every
-// contract cites the table, the definitions `may` and `then` of model/specs/Model.antt.
-#![tactic(auto)]
+// When each event may happen, and what then holds, row by row of the table of events, from the first state on. Every
+// contract cites the table, the definitions `may` and `then` of model/specs/Model.antt. The number of tablets stays beside
+// the state and not in it, since `may n state event` and `then state event` take them apart. The proofs open these two
+// definitions, and those of a tablet's part the one that each names.
+#![tactic(auto, unfolding(model::specs::Model::may, model::specs::Model::then))]
 
 mod tablets;
 
@@ -8,7 +10,7 @@ ghost use Rattle.std.specs.Prelude.{◌≡◌};
 ghost use Rattle.model.specs.Model.{first_state, may, then};
 
 use crate::tablets::{
-    all_settled, local_value, marked, others_stale, seat_of, seats_of, tablet_of,
+    all_settled, local_value, marked, others_stale, seat_of, seats_of, stored, tablet_of,
 };
 use model::{Event, Observation, State};
 
@@ -31,29 +33,24 @@ pub fn first(n: u8) -> State
 fn may_read(n: u8, state: State, tablet: u8, seen: u8) -> bool
     ensures { result ≡ may n state (Event.Observed (Observation.Read tablet seen)) }
 {
-    let local = state.local;
-    tablet_of(n, tablet) & (local_value(local, tablet) == seen)
+    tablet_of(n, tablet) & (local_value(state.local, tablet) == seen)
 }
 
 // WRITE at a tablet of a new value, which saw a value.
 fn may_write(n: u8, state: State, tablet: u8, new: u8, seen: u8) -> bool
     ensures { result ≡ may n state (Event.Observed (Observation.Write tablet new seen)) }
 {
-    let local = state.local;
-    tablet_of(n, tablet) & ((new < 64) & (local_value(local, tablet) == seen))
+    tablet_of(n, tablet) & ((new < 64) & (local_value(state.local, tablet) == seen))
 }
 
 fn then_write(state: State, tablet: u8, new: u8, seen: u8) -> State
     ensures { result ≡ then state (Event.Observed (Observation.Write tablet new seen)) }
 {
-    let seat = seat_of(tablet);
-    let at = seat as usize;
-    let mut next = state;
-    next.dirty = marks::add(state.dirty, seat);
-    if at < 8 {
-        next.local[at] = new;
+    State {
+        local: stored(state.local, tablet, new),
+        dirty: marks::add(state.dirty, seat_of(tablet)),
+        ..state
     }
-    next
 }
 
 // STABILIZE, which found a value at the server and a conflict set.
@@ -80,13 +77,8 @@ pub fn then_observe(state: State, observation: Observation) -> State
     ensures { result ≡ then state (Event.Observed observation) }
 {
     match observation {
-        Observation::Read { tablet: _, seen: _ } => state,
         Observation::Write { tablet, new, seen } => then_write(state, tablet, new, seen),
-        Observation::Stabilize {
-            seen: _,
-            conflicts: _,
-        } => state,
-        Observation::Failed => state,
+        Observation::Read { .. } | Observation::Stabilize { .. } | Observation::Failed => state,
     }
 }
 
@@ -100,22 +92,27 @@ pub fn may_up(n: u8, state: State, tablet: u8) -> bool
 pub fn then_up(state: State, tablet: u8) -> State
     ensures { result ≡ then state (Event.Up tablet) }
 {
-    let local = state.local;
-    let value = local_value(local, tablet);
+    let value = local_value(state.local, tablet);
     let fresh = marked(state.fresh, tablet);
     let differs = value != state.server;
-    let mut next = state;
-    next.dirty = marks::remove(state.dirty, seat_of(tablet));
+    let clean = State {
+        dirty: marks::remove(state.dirty, seat_of(tablet)),
+        ..state
+    };
     if fresh & differs {
-        next.server = value;
-        next.fresh = others_stale(state.fresh, tablet);
-        return next;
+        State {
+            server: value,
+            fresh: others_stale(state.fresh, tablet),
+            ..clean
+        }
+    } else if !fresh & (differs & (value != 0)) {
+        State {
+            conflicts: marks::add(state.conflicts, value),
+            ..clean
+        }
+    } else {
+        clean
     }
-    if !fresh & (differs & (value != 0)) {
-        next.conflicts = marks::add(state.conflicts, value);
-        return next;
-    }
-    next
 }
 
 // DOWN at a tablet.
@@ -128,12 +125,9 @@ pub fn may_down(n: u8, state: State, tablet: u8) -> bool
 pub fn then_down(state: State, tablet: u8) -> State
     ensures { result ≡ then state (Event.Down tablet) }
 {
-    let seat = seat_of(tablet);
-    let at = seat as usize;
-    let mut next = state;
-    next.fresh = marks::add(state.fresh, seat);
-    if at < 8 {
-        next.local[at] = state.server;
+    State {
+        local: stored(state.local, tablet, state.server),
+        fresh: marks::add(state.fresh, seat_of(tablet)),
+        ..state
     }
-    next
 }

@@ -1,10 +1,11 @@
 // One tablet's part of a state, and what is asked or done of all tablets. A number that is no tablet's has the local value
 // 0 and no marks.
-ghost use Rattle.std.specs.Prelude.{◌≡◌};
+ghost use Rattle.std.specs.Prelude.{◌≡◌, set};
 ghost use Rattle.marks.specs.Sets.{only};
-ghost use Rattle.model.specs.Model.{seats, seat, is_tablet, value_at, mark_at, all_fresh_and_clean};
+ghost use Rattle.model.specs.Model.{seats, seat, is_tablet, value_at, mark_at, fresh_and_clean, all_fresh_and_clean};
 
 // How many tablets there are: no more than 8.
+#[tactic(auto, unfolding(model::specs::Model::seats))]
 pub fn seats_of(n: u8) -> u8
     ensures { result ≡ seats n }
 {
@@ -12,6 +13,7 @@ pub fn seats_of(n: u8) -> u8
 }
 
 // The bit and the place that stand for a tablet.
+#[tactic(auto, unfolding(model::specs::Model::seat))]
 pub fn seat_of(tablet: u8) -> u8
     ensures { result ≡ seat tablet }
 {
@@ -19,6 +21,7 @@ pub fn seat_of(tablet: u8) -> u8
 }
 
 // Whether the number is a tablet's.
+#[tactic(auto, unfolding(model::specs::Model::is_tablet))]
 pub fn tablet_of(n: u8, tablet: u8) -> bool
     ensures { result ≡ is_tablet n tablet }
 {
@@ -26,6 +29,7 @@ pub fn tablet_of(n: u8, tablet: u8) -> bool
 }
 
 // The local value of a tablet.
+#[tactic(auto, unfolding(model::specs::Model::value_at))]
 pub fn local_value(local: [u8; 8], tablet: u8) -> u8
     ensures { result ≡ value_at local tablet }
 {
@@ -33,7 +37,20 @@ pub fn local_value(local: [u8; 8], tablet: u8) -> u8
     if at < 8 { local[at] } else { 0 }
 }
 
+// The local values with a tablet's put in its place. A number that is no tablet's changes nothing.
+pub fn stored(local: [u8; 8], tablet: u8, value: u8) -> [u8; 8]
+    ensures { result ≡ set local (seat tablet) value }
+{
+    let at = seat_of(tablet) as usize;
+    let mut values = local;
+    if at < 8 {
+        values[at] = value;
+    }
+    values
+}
+
 // Whether a tablet has its mark in a set.
+#[tactic(auto, unfolding(model::specs::Model::mark_at))]
 pub fn marked(set: u8, tablet: u8) -> bool
     ensures { result ≡ mark_at set tablet }
 {
@@ -46,28 +63,25 @@ pub fn others_stale(fresh: u8, tablet: u8) -> u8
 {
     let keep = seat_of(tablet);
     let mut left = fresh;
-    let mut other = 0u8;
-    while other < 8 {
+    for other in 0..8u8 {
         if other != keep {
             left = marks::remove(left, other);
         }
-        other += 1;
     }
     left
+}
+
+// Whether a tablet is fresh and clean.
+#[tactic(auto, unfolding(model::specs::Model::fresh_and_clean))]
+fn settled(fresh: u8, dirty: u8, tablet: u8) -> bool
+    ensures { result ≡ fresh_and_clean fresh dirty tablet }
+{
+    marked(fresh, tablet) & !marked(dirty, tablet)
 }
 
 // Whether every tablet is fresh and clean, asked of one tablet after the other up to the first that is not.
 pub fn all_settled(n: u8, fresh: u8, dirty: u8) -> bool
     ensures { result ≡ all_fresh_and_clean n fresh dirty }
 {
-    let count = seats_of(n);
-    let mut passed = 0u8;
-    while passed < count {
-        passed += 1;
-        let settled = marked(fresh, passed) & !marked(dirty, passed);
-        if !settled {
-            return false;
-        }
-    }
-    true
+    (1..seats_of(n) + 1).all(|tablet| settled(fresh, dirty, tablet))
 }

@@ -5,7 +5,7 @@ use Prim.Native.Nat.{ℕ, ◌*◌, ◌%◌, ◌^◌, ◌≤◌, ◌<◌}
 use native.Mathlib.Nat.{one-mul}
 use native.Mathlib.Omega.{arith}
 use lib.Dec.{lit<}
-use lib.Pow.{pow_pos, shl_exact}
+use lib.Pow.{shl_exact}
 use Rattle.marks.specs.Sets.{full}
 use Rattle.model.specs.Model.{first_state, seats}
 use Rattle.events.proofs.first.Goals as goal
@@ -17,9 +17,6 @@ one_shifted k h = shl_exact 1 k 8 (lit< tt) (omega arith) ∙ one-mul (2 ^ k)
 eight : (n : ℕ) → 8 ≤ seats n → seats n ≡ 8
 unfolding seats
 eight n h = omega arith
-
-pub overflow_sub-fresh : goal.overflow_sub-fresh
-overflow_sub-fresh c = rw (one_shifted _ c.if-count-lt8.true) (pow_pos _)
 
 pub returns-then-count-lt8 : goal.returns-then-count-lt8
 unfolding first_state full

@@ -1,32 +1,16 @@
--- `events::tablets::all_settled` meets its contract: the first tablet that is not settled decides, and where none is left
--- all are.
+-- `events::tablets::all_settled` meets its contract: the tablets asked are those of the definition.
 -- Assumes nothing.
-use mathlib.Core.Bool.{not, not-not}
-use mathlib.Core.Path.{◌≡◌, refl, sym, ap, ◌∙◌}
-use Prim.Native.Nat.{ℕ}
-use native.Mathlib.Omega.{arith}
-use Rattle.model.specs.Model.{seats, up_to, every, fresh_and_clean, all_fresh_and_clean}
-use Rattle.events.proofs.Settled.{every_more, one_fails}
+use Rattle.std.proofs.Common.{◌≡◌, true, false, rules, ◌+◌, ◌∙◌, ap, arith, refl}
+use Rattle.std.proofs.lemmas.Iterator.{cases_from_all, YieldsList-from_range}
+use borrow.Author.Tests.{tests}
+use Rattle.model.specs.Model.{up_to, every, tablets, fresh_and_clean, all_fresh_and_clean}
+use Rattle.events.proofs.Settled.{every_asked}
 use Rattle.events.proofs.tablets.all_settled.Goals as goal
 
-pub loop-passed-init : goal.loop-passed-init
-unfolding every up_to seats
-loop-passed-init c = (refl, omega arith, omega arith)
-
-pub returns-then-not-settled : goal.returns-then-not-settled
-unfolding all_fresh_and_clean fresh_and_clean
-returns-then-not-settled c = sym (one_fails (fresh_and_clean c.args.fresh c.args.dirty) c.loop-passed.passed (seats c.args.n) (rw (sym c.marked.ensures, sym c.marked-in-loop-passed.ensures) (sym (not-not _) ∙ ap not c.if-not-settled.true-raw)) (omega arith))
-
-pub loop-passed-preserved : goal.loop-passed-preserved
-unfolding fresh_and_clean
-loop-passed-preserved c = (
-  every_more _ c.loop-passed.passed ∙ rw (c.loop-passed.invariant.0, sym c.marked.ensures, sym c.marked-in-loop-passed.ensures) (sym (not-not _) ∙ ap not c.if-not-settled.false-raw),
-  omega arith,
-  omega arith,
-)
-
 pub returns : goal.returns
-unfolding all_fresh_and_clean
+unfolding all_fresh_and_clean tablets
 returns c =
-    let all : c.loop-passed.passed ≡ seats c.args.n = omega arith in
-    sym (ap (λ (k : ℕ). every (fresh_and_clean c.args.fresh c.args.dirty) (up_to k)) (sym all) ∙ c.loop-passed.invariant.0)
+    let p = fresh_and_clean c.args.fresh c.args.dirty in
+    let asked = YieldsList-from_range 1 (c.seats_of.result + 1) c.seats_of.result refl (omega arith) in
+    let told = cases_from_all _ _ _ (λ t. p t ≡ true) (λ t. p t ≡ false) c.all.ensures.ran asked (λ x q k. search (rules, tests)) (λ x q k. search (rules, tests)) in
+    every_asked p c.seats_of.result c.all.result told ∙ ap (λ n. every p (up_to n)) c.seats_of.ensures

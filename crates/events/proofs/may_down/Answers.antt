@@ -1,8 +1,0 @@
--- `events::may_down` meets its contract: its answers, joined, are the row of the table.
--- Assumes nothing.
-use Rattle.model.specs.Model.{may}
-use Rattle.events.proofs.may_down.Goals as goal
-
-pub returns : goal.returns
-unfolding may
-returns c = rw (c.tablet_of.ensures, c.marked.ensures, c.marked-2.ensures)
