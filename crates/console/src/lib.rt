@@ -1,14 +1,15 @@
 // The console's one call, for C: what is said of a trace as a status, a result area of 12 bytes and the room.
 #![tactic(auto)]
 
-ghost use Rattle.std.specs.Prelude.{◌≡◌, ◌%◌};
+ghost use Rattle.std.specs.Prelude.{◌≡◌};
 ghost use Rattle.verdict.specs.Judged.{told};
-ghost use Rattle.console.specs.Called.{handed_by, with_numbers, area_of, status, room_after, area_after};
+ghost use Rattle.console.specs.Called.{handed_by, status, room_after, area_after};
 
-use verdict::Verdict;
+use tracefile::Numbered;
+use verdict::{Refusal, Verdict};
 
 // What is handed back: the status, and the three numbers of the area.
-#[derive(Clone, Copy)]
+#[derive(Clone, Copy, Debug, Default, PartialEq, Eq)]
 pub struct Handed {
     pub status: u32,
     pub points: u32,
@@ -16,59 +17,38 @@ pub struct Handed {
     pub place: u32,
 }
 
-fn hand(status: u32, points: u32, events: u32, place: u32) -> Handed
-    ensures { result ≡ with_numbers status points events place }
-{
-    Handed {
-        status,
-        points,
-        events,
-        place,
-    }
-}
+// The status numbers 0, 1, 2 and 10 plus a refusal's number are the C interface, as are the three numbers beside them.
+impl From<Result<Verdict, Refusal>> for Handed {
+    ghost from_gives = { λ said made. made ≡ handed_by (told said) };
 
-// What is handed back for a verdict.
-fn hand_back(verdict: Verdict) -> Handed
-    ensures { result ≡ handed_by (told verdict) }
-{
-    match verdict {
-        Verdict::Explained { points, events } => hand(0, points, events, 0),
-        Verdict::Unexplained { points } => hand(1, points, 0, 0),
-        Verdict::Undecided { points } => hand(2, points, 0, 0),
-        Verdict::Refused(refusal) => {
-            let refused = tracefile::number_and_place(refusal);
-            hand(10 + refused.number, 0, 0, refused.place)
+    fn from(said: Result<Verdict, Refusal>) -> Handed {
+        let none = Handed::default();
+        match said {
+            Ok(Verdict::Explained { points, events }) => Handed {
+                points,
+                events,
+                ..none
+            },
+            Ok(Verdict::Unexplained { points }) => Handed {
+                status: 1,
+                points,
+                ..none
+            },
+            Ok(Verdict::Undecided { points }) => Handed {
+                status: 2,
+                points,
+                ..none
+            },
+            Err(refusal) => {
+                let refused = Numbered::from(refusal);
+                Handed {
+                    status: 10 + refused.number,
+                    place: refused.place,
+                    ..none
+                }
+            }
         }
-        Verdict::NoRoom => hand(19, 0, 0, 0),
-        Verdict::TooDeep => hand(20, 0, 0, 0),
     }
-}
-
-// The least byte of a number.
-fn low(number: u32) -> u8
-    ensures { result ≡ number % 256 }
-{
-    (number % 256) as u8
-}
-
-// The area: points, events and place, 4 bytes each, least byte first.
-fn area_bytes(handed: Handed) -> [u8; 12]
-    ensures { result ≡ area_of handed }
-{
-    [
-        low(handed.points),
-        low(handed.points / 256),
-        low(handed.points / 65536),
-        low(handed.points / 16777216),
-        low(handed.events),
-        low(handed.events / 256),
-        low(handed.events / 65536),
-        low(handed.events / 16777216),
-        low(handed.place),
-        low(handed.place / 256),
-        low(handed.place / 65536),
-        low(handed.place / 16777216),
-    ]
 }
 
 // Says whether trace `trace` of the file can be explained within the budget. An area that is not of 12 bytes is refusal 9
@@ -86,10 +66,11 @@ pub extern "C" fn sklandupa_explain(
     ensures area { area.new ≡ area_after file.now trace budget room.old area.old }
 {
     if area.len() != 12 {
-        return 19;
+        return Handed::from(Err(Refusal::NoRoom)).status;
     }
-    let handed = hand_back(verdict::explain(file, trace, budget, room));
-    let filled = area_bytes(handed);
-    area.copy_from_slice(&filled);
+    let handed = Handed::from(verdict::explain(file, trace, budget, room));
+    area[..4].copy_from_slice(&handed.points.to_le_bytes());
+    area[4..8].copy_from_slice(&handed.events.to_le_bytes());
+    area[8..].copy_from_slice(&handed.place.to_le_bytes());
     handed.status
 }
