@@ -19,7 +19,7 @@ use Rattle.tracefile.specs.Refusals.{Answer, accepted}
 use Rattle.tracefile.specs.Refusals as R
 use Rattle.tracefile.specs.File.{tablets_in, values_in, bodies_in, entry, offset_in, count_in, body_size, bad_entry, entries, in_body, in_bodies, records, check}
 use Rattle.tracefile.proofs.Good.{passed, good_entry, good_contents, good_file, File}
-use Rattle.writer.specs.Written.{Result, wrote, refused, two_bytes, entries_of, file_of, file_size, sum, over, bad_record, fitted, write}
+use Rattle.writer.specs.Written.{Outcome, wrote, refused, two_bytes, entries_of, file_of, file_size, sum, over, bad_record, fitted, write}
 use Rattle.writer.specs.RoundTrip.{counts_from, counts_in}
 use Rattle.writer.proofs.Laid.{Rows}
 use Rattle.records.proofs.Parts.{record_drop}
@@ -117,7 +117,7 @@ rows_of_bodies f (suc left) i at h j l =
     ]
 
 -- rows that are kept are accepted
-rows_accepted : (n v : ℕ) (rs : List ℕ) (left at : ℕ) (good : Result) → Rows n v rs at left → bad_record n v rs left at good ≡ good
+rows_accepted : (n v : ℕ) (rs : List ℕ) (left at : ℕ) (good : Outcome) → Rows n v rs at left → bad_record n v rs left at good ≡ good
 unfolding bad_record
 rows_accepted n v rs zero at good h = refl
 rows_accepted n v rs (suc left) at good h =

@@ -6,37 +6,38 @@ use mathlib.Core.Path.{◌≡◌, refl, sym, ap, ◌∙◌}
 use contract.Lifetimes.{Lfts}
 use denote.Triple.Clauses.{AtExit}
 use borrow.Fn.Kinds.{Dens, res_t, ended_of}
+use Rattle.std.proofs.Common.{Result, Ok, Err}
 use lib.Dec.{eqb}
+use Prim.Native.Nat.{ℕ}
+use Rattle.writer.specs.declared.Unwritten.{Unwritten}
 use Rattle.writer.specs.declared.Unwritten.TheVariants.{Tablets, Values, Bodies, Counts, BadRecord, Room}
-use Rattle.writer.specs.declared.Written.{Written}
-use Rattle.writer.specs.declared.Written.TheVariants.{Length, Refused}
-use Rattle.writer.specs.Written.{Result, wrote, refused, told, buffer_after}
+use Rattle.writer.specs.Written.{Outcome, wrote, refused, told, buffer_after}
 use Rattle.writer.proofs.write_file.Kinds as kinds
 use Rattle.writer.proofs.write_file.Reads as reads
 
 -- the case that has a length, or a number and a place
-case : Result → Written
-case (wrote size) = Length size
+case : Outcome → Result ℕ Unwritten
+case (wrote size) = Ok size
 case (refused k p) =
-    cond (eqb k 3) (Refused Tablets)
-    (cond (eqb k 4) (Refused Values)
-    (cond (eqb k 5) (Refused Bodies)
-    (cond (eqb k 6) (Refused Counts)
-    (cond (eqb k 7) (Refused (BadRecord p)) (Refused Room)))))
+    cond (eqb k 3) (Err Tablets)
+    (cond (eqb k 4) (Err Values)
+    (cond (eqb k 5) (Err Bodies)
+    (cond (eqb k 6) (Err Counts)
+    (cond (eqb k 7) (Err (BadRecord p)) (Err Room)))))
 
 -- it is the case that told them
-case_told : (x : Written) → case (told x) ≡ x
+case_told : (x : Result ℕ Unwritten) → case (told x) ≡ x
 unfolding case
-case_told (Length size) = refl
-case_told (Refused Tablets) = refl
-case_told (Refused Values) = refl
-case_told (Refused Bodies) = refl
-case_told (Refused Counts) = refl
-case_told (Refused (BadRecord p)) = refl
-case_told (Refused Room) = refl
+case_told (Ok size) = refl
+case_told (Err Tablets) = refl
+case_told (Err Values) = refl
+case_told (Err Bodies) = refl
+case_told (Err Counts) = refl
+case_told (Err (BadRecord p)) = refl
+case_told (Err Room) = refl
 
 -- what an answer tells has one case
-told_once : (x y : Written) → told x ≡ told y → x ≡ y
+told_once : (x y : Result ℕ Unwritten) → told x ≡ told y → x ≡ y
 told_once x y h = sym (case_told x) ∙ ap case h ∙ case_told y
 
 -- one answer and one buffer for each input

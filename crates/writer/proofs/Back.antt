@@ -16,18 +16,18 @@ use Rattle.tracefile.specs.Refusals.{accepted}
 use Rattle.tracefile.specs.File.{tablets_in, values_in, bodies_in, outside, entry, offset_in, count_in, body_size, head, contents, records, check, check_trace}
 use Rattle.tracefile.proofs.Loops.{or_false}
 use Rattle.tracefile.proofs.Good.{inside, asked_part}
-use Rattle.writer.specs.Written.{Result, wrote, refused, entries_of, file_of, file_size, sum, over, bad_record, fitted, write}
+use Rattle.writer.specs.Written.{Outcome, wrote, refused, entries_of, file_of, file_size, sum, over, bad_record, fitted, write}
 use Rattle.writer.specs.RoundTrip.{counts_from, counts_in, bodies_from, read_bodies, parted}
 use Rattle.writer.proofs.Laid.{later, few, first_entry, entries_good, Rows, bodies_good}
 use Rattle.records.proofs.Parts.{record_drop}
 
 -- ---- what acceptance says
 
-passed : (t : Bool) (k p size : ℕ) (next : Result) → cond t (refused k p) next ≡ wrote size → (t ≡ false) × (next ≡ wrote size)
+passed : (t : Bool) (k p size : ℕ) (next : Outcome) → cond t (refused k p) next ≡ wrote size → (t ≡ false) × (next ≡ wrote size)
 passed true k p size next h = let z : ◌≡◌ {A = ℕ} 0 1 = cc in absurd (omega arith)
 passed false k p size next h = (refl, h)
 
-rows_kept : (n v : ℕ) (rs : List ℕ) (left at size : ℕ) (good : Result) → bad_record n v rs left at good ≡ wrote size
+rows_kept : (n v : ℕ) (rs : List ℕ) (left at size : ℕ) (good : Outcome) → bad_record n v rs left at good ≡ wrote size
     → Rows n v rs at left × (good ≡ wrote size)
 unfolding bad_record
 rows_kept n v rs zero at size good h = (λ j l. absurd (omega arith), h)

@@ -2,19 +2,19 @@
 -- Assumes nothing.
 use mathlib.Core.Bool.{Bool, true, false, cond, not, ◌||◌, true≢false}
 use mathlib.Core.List.{List, [], ◌∷◌}
-use mathlib.Core.Path.{◌≡◌, refl, sym, ap, ◌∙◌}
+use mathlib.Core.Path.{◌≡◌, refl, sym}
 use Prim.Native.Nat.{ℕ, zero, suc, ◌+◌, ◌*◌, ◌/◌, ◌≤◌}
 use native.Mathlib.Omega.{arith}
+use Rattle.std.proofs.Common.{Result, Ok, Err, IsErr, IfOk}
 use lib.Dec.{ltb, eqb}
 use lib.ListN.{length}
 use borrow.Author.Tests.{ltb-false, eqb-true, not-false}
 use Rattle.records.specs.Records.{record_at, keeps_row}
 use Rattle.tracefile.specs.File.{most, record_size, outside}
-use Rattle.writer.specs.declared.Written.{Written}
-use Rattle.writer.specs.declared.Written.TheVariants.{Length, Refused}
 use Rattle.writer.specs.declared.Unwritten.{Unwritten}
 use Rattle.writer.specs.declared.Unwritten.TheVariants.{Tablets, Values, Bodies, Counts, BadRecord, Room}
-use Rattle.writer.specs.Written.{Result, wrote, refused, refusal, told, sum, over, file_size, bad_record, fitted, rows_then_room, write, buffer_after}
+use Rattle.writer.specs.Written.{Outcome, wrote, refused, refusal, told, sum, over, file_size, bad_record, fitted, rows_then_room, write, buffer_after}
+use Rattle.writer.specs.Decided.{Decided}
 use Rattle.writer.proofs.Counts.{wrong}
 
 -- neither of two tests holds
@@ -49,18 +49,18 @@ no_file : (number place size : ℕ) → refused number place ≡ wrote size → 
 no_file number place size e = let z : ◌≡◌ {A = ℕ} 0 1 = cc in omega arith
 
 -- a chain of refusals that ends in a file: this one did not apply
-passed : (test : Bool) (number place : ℕ) (rest : Result) (size : ℕ) → cond test (refused number place) rest ≡ wrote size
+passed : (test : Bool) (number place : ℕ) (rest : Outcome) (size : ℕ) → cond test (refused number place) rest ≡ wrote size
     → (test ≡ false) × (rest ≡ wrote size)
 passed true number place rest size e = absurd (no_file number place size e)
 passed false number place rest size e = (refl, e)
 
 -- the record that was asked keeps its row
-row_passed : (row : Bool) (rest : Result) (at size : ℕ) → cond row rest (refused 7 at) ≡ wrote size → rest ≡ wrote size
+row_passed : (row : Bool) (rest : Outcome) (at size : ℕ) → cond row rest (refused 7 at) ≡ wrote size → rest ≡ wrote size
 row_passed true rest at size e = e
 row_passed false rest at size e = absurd (no_file 7 at size e)
 
 -- all records keep their rows
-rows_passed : (n v : ℕ) (records : List ℕ) (left at : ℕ) (good : Result) (size : ℕ)
+rows_passed : (n v : ℕ) (records : List ℕ) (left at : ℕ) (good : Outcome) (size : ℕ)
     → bad_record n v records left at good ≡ wrote size → good ≡ wrote size
 unfolding bad_record
 rows_passed n v records zero at good size e = e
@@ -71,17 +71,6 @@ rows_passed n v records (suc left) at good size e =
 -- a file has one length
 one_length : (a b : ℕ) → wrote a ≡ wrote b → a ≡ b
 one_length a b e = cc
-
--- What is known of a file of size bytes that was decided on.
-pub record Decided (n v : ℕ) (counts records : List ℕ) (room size : ℕ) : Type 0 where
-  pub due : wrote size ≡ write n v counts records room
-  pub tablets : n ≤ 8
-  pub values : v ≤ 64
-  pub bodies : length counts ≤ 16
-  pub bytes : length records ≡ record_size * sum counts
-  pub small : length records ≤ record_size * (16 * most)
-  pub whole : size ≡ file_size counts records
-  pub fits : size ≤ room
 
 -- where writing comes to a file, that is known of it
 decided : (n v : ℕ) (counts records : List ℕ) (room size : ℕ) → write n v counts records room ≡ wrote size
@@ -98,7 +87,6 @@ decided n v counts records room size e =
     let whole = one_length (file_size counts records) size p9.1 in
     let bytes = counted counts (length records) k p6.0 in
     record {
-      due = sym e;
       tablets = (within 1 8 n p3.0).1;
       values = (within 1 64 v p4.0).1;
       bodies = k;
@@ -108,13 +96,14 @@ decided n v counts records room size e =
       fits = omega (arith, ltb-false room (file_size counts records) p9.0);
     }
 
--- the same where the answer is a length
-pub decided_on : (n v : ℕ) (counts records : List ℕ) (room : ℕ) (answer : Written) (size : ℕ) → answer ≡ Length size
-    → told answer ≡ write n v counts records room → Decided n v counts records room size
-decided_on n v counts records room answer size is e = decided n v counts records room size (sym e ∙ ap told is)
+-- the same of an answer that tells it
+pub decided_ok : (n v : ℕ) (counts records : List ℕ) (room : ℕ) (answer : Result ℕ Unwritten) → told answer ≡ write n v counts records room
+    → IfOk answer (λ size. Decided n v counts records room size)
+decided_ok n v counts records room (Ok size) e = decided n v counts records room size (sym e)
+decided_ok n v counts records room (Err why) e = tt
 
 -- no refusal touches the buffer
-refusal_keeps : (file buffer : List ℕ) (why : Unwritten) → buffer ≡ buffer_after file buffer (refusal why)
+refusal_keeps : (file buffer : List ℕ) (why : Unwritten) → buffer_after file buffer (refusal why) ≡ buffer
 unfolding buffer_after
 refusal_keeps file buffer Tablets = refl
 refusal_keeps file buffer Values = refl
@@ -124,6 +113,6 @@ refusal_keeps file buffer (BadRecord at) = refl
 refusal_keeps file buffer Room = refl
 
 -- nor does an answer that is one
-pub refused_keeps : (file buffer : List ℕ) (answer : Written) (why : Unwritten) → answer ≡ Refused why
-    → buffer ≡ buffer_after file buffer (told answer)
-refused_keeps file buffer answer why is = rw is (refusal_keeps file buffer why)
+pub refused_keeps : (file buffer : List ℕ) (answer : Result ℕ Unwritten) → IsErr answer → buffer_after file buffer (told answer) ≡ buffer
+refused_keeps file buffer (Err why) e = refusal_keeps file buffer why
+refused_keeps file buffer (Ok size) e = absurd (true≢false (sym e))

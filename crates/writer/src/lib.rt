@@ -1,12 +1,15 @@
 // A trace file from records. It decides before it writes, so that a refusal leaves the whole buffer as it was.
 #![tactic(auto)]
 
-ghost use Rattle.std.specs.Prelude.{◌≡◌, cond, not, ◌||◌, ◌*◌, ltb, eqb, length};
+ghost use Rattle.std.specs.Prelude.{◌≡◌, cond, not, ◌||◌, ◌*◌, ltb, eqb, length, IfOk};
 ghost use Rattle.tracefile.specs.File.{record_size};
-ghost use Rattle.writer.specs.Written.{refused, wrote, told, sum, over, bad_record, write, file_of, buffer_after};
+ghost use Rattle.writer.specs.Written.{Outcome, refused, wrote, told, and_then, sum, over, bad_record, write, file_of, buffer_after};
+ghost use Rattle.writer.specs.Decided.{Decided};
+
+use records::{Limits, read_record};
 
 // Why nothing was written. The place is 0 where a case carries none.
-#[derive(Clone, Copy)]
+#[derive(Clone, Copy, Debug, PartialEq, Eq)]
 pub enum Unwritten {
     Tablets,
     Values,
@@ -16,22 +19,14 @@ pub enum Unwritten {
     Room,
 }
 
-// The length of the file that now stands in the buffer, or why there is none.
-#[derive(Clone, Copy)]
-pub enum Written {
-    Length(u32),
-    Refused(Unwritten),
-}
-
 // Whether some count is over 256, or the record bytes are not 12 times the sum of the counts. Each count is tested before
 // its records are taken off the bytes.
+#[tactic(auto, using(crate::proofs::Counts::counts_steps))]
 fn miscounted(counts: &[u32], bytes: usize) -> bool
     ensures { result ≡ (over counts.now || not (eqb bytes (record_size * sum counts.now))) }
 {
     let mut left = bytes;
-    let mut i = 0;
-    while i < counts.len() {
-        let count = counts[i];
+    for &count in counts {
         if 256 < count {
             return true;
         }
@@ -40,86 +35,85 @@ fn miscounted(counts: &[u32], bytes: usize) -> bool
             return true;
         }
         left -= body;
-        i += 1;
     }
     left != 0
 }
 
 // The length of a file, or 9 where the buffer is short of it.
-fn fitted(size: u32, room: usize) -> Written
+fn fitted(size: u32, room: usize) -> Result<u32, Unwritten>
     ensures { told result ≡ cond (ltb room size) (refused 9 0) (wrote size) }
 {
     if room < size as usize {
-        return Written::Refused(Unwritten::Room);
+        return Err(Unwritten::Room);
     }
-    Written::Length(size)
+    Ok(size)
 }
 
-// Refusal 7 at the first of so many records that breaks its row, or the answer for good ones.
-fn first_bad(n: u8, v: u8, records: &[u8], all: u16, good: Written) -> Written
-    ensures { told result ≡ bad_record n v records.now all 0 (told good) }
+// Refusal 7 at the first of so many records that breaks its row.
+#[tactic(auto, using(crate::proofs::Rows::rows_steps))]
+fn first_bad(limits: Limits, records: &[u8], all: u16) -> Result<(), Unwritten>
+    ensures { (good : Outcome) → and_then result good ≡ bad_record limits.tablets limits.values records.now all 0 good }
 {
-    let mut left = all;
-    let mut at = 0u32;
-    while 0 < left {
-        if !records::row_kept(n, v, records::read_record(records, at as usize)) {
-            return Written::Refused(Unwritten::BadRecord(at));
+    for i in 0..all {
+        let at = 12 * u32::from(i);
+        if !limits.keep(read_record(records, at as usize)) {
+            return Err(Unwritten::BadRecord(at));
         }
-        at += 12;
-        left -= 1;
     }
-    good
+    Ok(())
 }
 
 // What writing comes to: each refusal in its order, or the length of the file.
-fn decide(n: u32, v: u32, counts: &[u32], records: &[u8], room: usize) -> Written
-    ensures { told result ≡ write n v counts.now records.now room }
+#[tactic(auto, unfolding(crate::specs::Written::write, crate::specs::Written::rows_then_room, crate::specs::Written::fitted))]
+fn decide(n: u32, v: u32, counts: &[u32], records: &[u8], room: usize) -> Result<u32, Unwritten>
+    ensures told { told result ≡ write n v counts.now records.now room }
+    ensures decided { IfOk result (λ size. Decided n v counts.now records.now room size) }
 {
     if (n < 1) | (8 < n) {
-        return Written::Refused(Unwritten::Tablets);
+        return Err(Unwritten::Tablets);
     }
     if (v < 1) | (64 < v) {
-        return Written::Refused(Unwritten::Values);
+        return Err(Unwritten::Values);
     }
     let k = counts.len();
     if (k < 1) | (16 < k) {
-        return Written::Refused(Unwritten::Bodies);
+        return Err(Unwritten::Bodies);
     }
     let bytes = records.len();
     if miscounted(counts, bytes) {
-        return Written::Refused(Unwritten::Counts);
+        return Err(Unwritten::Counts);
     }
-    let good = fitted((4 + 4 * k + bytes) as u32, room);
-    first_bad(n as u8, v as u8, records, (bytes / 12) as u16, good)
+    let limits = Limits {
+        tablets: n as u8,
+        values: v as u8,
+    };
+    first_bad(limits, records, (bytes / 12) as u16)?;
+    fitted((4 + 4 * k + bytes) as u32, room)
 }
 
-// Writes the file of n tablets, v values, bodies of these counts and all their records, back to back.
-pub fn write_file(n: u32, v: u32, counts: &[u32], records: &[u8], buffer: &mut [u8]) -> Written
+// Writes the file of n tablets, v values, bodies of these counts and all their records, back to back, and gives its length.
+#[tactic(auto, using(crate::proofs::Decided::refused_keeps, crate::proofs::Buffer::entering))]
+pub fn write_file(
+    n: u32,
+    v: u32,
+    counts: &[u32],
+    records: &[u8],
+    buffer: &mut [u8],
+) -> Result<u32, Unwritten>
     ensures result { told result ≡ write n v counts.now records.now (length buffer.old) }
     ensures buffer { buffer.new ≡ buffer_after (file_of n v counts.now records.now) buffer.old (told result) }
 {
-    let answer = decide(n, v, counts, records, buffer.len());
-    let Written::Length(length) = answer else {
-        return answer;
-    };
+    let length = decide(n, v, counts, records, buffer.len())?;
     let k = counts.len();
-    buffer[0] = 1;
-    buffer[1] = n as u8;
-    buffer[2] = v as u8;
-    buffer[3] = k as u8;
+    buffer[..4].copy_from_slice(&[1, n as u8, v as u8, k as u8]);
     let start = 4 + 4 * k;
     let mut at = start as u32;
-    let mut i = 0;
-    while i < k {
-        let count = counts[i];
+    for (i, &count) in counts.iter().enumerate() {
         let entry = 4 + 4 * i;
-        buffer[entry] = (at % 256) as u8;
-        buffer[entry + 1] = (at / 256 % 256) as u8;
-        buffer[entry + 2] = (count % 256) as u8;
-        buffer[entry + 3] = (count / 256 % 256) as u8;
+        buffer[entry..entry + 2].copy_from_slice(&(at as u16).to_le_bytes());
+        buffer[entry + 2..entry + 4].copy_from_slice(&(count as u16).to_le_bytes());
         at += 12 * count;
-        i += 1;
     }
     buffer[start..length as usize].copy_from_slice(records);
-    Written::Length(length)
+    Ok(length)
 }

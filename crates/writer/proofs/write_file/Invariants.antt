@@ -1,12 +1,19 @@
--- The head and the entries of the bodies passed stand in the buffer. The measure is how many bodies are left.
+-- The first i entries stand in the buffer behind the head, and the next body follows those passed. Behind the entries the
+-- buffer is as it was.
 -- Assumes nothing.
-use Prim.Native.Nat.{◌-◌}
-use lib.ListN.{length}
-use Rattle.writer.proofs.Buffer.{Entered}
+use mathlib.Core.List.{◌++◌}
+use mathlib.Core.Path.{◌≡◌}
+use Prim.Native.Nat.{◌+◌, ◌*◌, ◌≤◌}
+use lib.ListN.{length, take, drop}
+use Rattle.tracefile.specs.File.{entry, record_size}
+use Rattle.writer.specs.Written.{sum, entries_of}
+use Rattle.writer.proofs.Buffer.{front}
 use Rattle.writer.proofs.write_file.Given as goal
 
 abbrev pub invariant-loop-i : goal.invariant-loop-i
-invariant-loop-i l = Entered l.counts l.initial.buffer l.buffer l.at l.i
-
-abbrev pub decreases-loop-i : goal.decreases-loop-i
-decreases-loop-i l = length l.counts - l.i
+invariant-loop-i l =
+    record {
+      below : l.at + record_size * sum (drop l.i l.counts) ≤ 65535;
+      before : take (entry l.i) l.buffer ++ entries_of l.at (drop l.i l.counts) ≡ front l.n l.v l.counts;
+      behind : drop (entry (length l.counts)) l.buffer ≡ drop (entry (length l.counts)) l.fn.buffer;
+    }
