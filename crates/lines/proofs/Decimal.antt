@@ -10,8 +10,6 @@ use lib.Dec.{ltb}
 use lib.ListN.{length, length-append}
 use borrow.Author.Tests.{ltb-true, ltb-false, lt-ltb, le-ltb}
 use Rattle.lines.specs.Text.{digit, digits, decimal}
-use Rattle.lines.specs.Put.{Put}
-use Rattle.lines.proofs.Putting.{then_put}
 
 -- the first number that has more than many + 1 digits
 beyond : ℕ → ℕ
@@ -30,12 +28,12 @@ more_digits (suc many) n h = go (ltb n 10) (more_digits many (n / 10) (omega ari
     go false less = ap (λ (l : List ℕ). l ++ (digit n ∷ [])) less
 
 -- a number below 10 is its digit
-decimal_one : (n : ℕ) → n < 10 → decimal n ≡ digit n ∷ []
+pub decimal_one : (n : ℕ) → n < 10 → decimal n ≡ digit n ∷ []
 unfolding decimal digits
 decimal_one n h = rw (lt-ltb n 10 h)
 
 -- any other of 32 bits has the digits of its tenth part, and then its last one
-decimal_more : (n : ℕ) → 10 ≤ n → n < 2 ^ 32 → decimal n ≡ decimal (n / 10) ++ (digit n ∷ [])
+pub decimal_more : (n : ℕ) → 10 ≤ n → n < 2 ^ 32 → decimal n ≡ decimal (n / 10) ++ (digit n ∷ [])
 unfolding decimal digits beyond
 decimal_more n h small =
     rw (le-ltb n 10 h) (ap (λ (l : List ℕ). l ++ (digit n ∷ [])) (sym (more_digits 8 (n / 10) (omega arith))))
@@ -128,13 +126,3 @@ two_digits n h = go (ltb n 10) refl
     go false e =
         let large = ltb-false n 10 e in
         rw (decimal_more n large (omega arith), decimal_one (n / 10) (omega arith)) (omega arith)
-
--- ---- digits that are put
-
-pub one_digit : (n : ℕ) (out : List ℕ) (at next : ℕ) (last : List ℕ) → n < 10
-    → Put (digit n ∷ []) out at next last → Put (decimal n) out at next last
-one_digit n out at next last h p = rw (decimal_one n h) p
-
-pub more_put : (n : ℕ) (out between : List ℕ) (at middle next : ℕ) (last : List ℕ) → 10 ≤ n → n < 2 ^ 32
-    → Put (decimal (n / 10)) out at middle between → Put (digit n ∷ []) between middle next last → Put (decimal n) out at next last
-more_put n out between at middle next last h small p q = rw (decimal_more n h small) (then_put _ _ _ _ _ _ _ _ p q)

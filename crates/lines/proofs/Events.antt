@@ -3,16 +3,25 @@
 use mathlib.Core.Bool.{Bool, true, false, cond}
 use mathlib.Core.List.{List, [], ◌∷◌, ◌++◌}
 use mathlib.Core.Path.{◌≡◌, refl, sym, ap, ◌∙◌}
-use Prim.Native.Nat.{ℕ, suc, ◌+◌, ◌-◌, ◌≤◌, ◌<◌}
-use native.Mathlib.Numerals.{add-one, add-two}
+use Prim.Native.Nat.{ℕ, zero, suc, ◌+◌, ◌/◌, ◌≤◌, ◌<◌}
 use native.Mathlib.Omega.{arith}
+use borrow.Author.Tests.{ne_eqb}
 use lib.Dec.{eqb}
-use lib.ListN.{length, drop, get_or, length-append, length-drop}
+use lib.ListN.{length, drop, get_or, length-append}
 use lib.Seq.{drop-cons}
+use native.Mathlib.Numerals.{add-one}
+use Rattle.std.specs.Prelude.{Result, Ok, Err}
+use Rattle.std.specs.Simd.{first_chunks}
+use Rattle.model.specs.declared.Kind.{Kind}
+use Rattle.model.specs.declared.Kind.TheVariants.{Read, Write, Stabilize, Failed, Up, Down}
+use Rattle.model.specs.declared.UnknownKind.{UnknownKind}
+use Rattle.model.specs.Kinds.{kind_of}
 use Rattle.lines.specs.Words.{words}
 use Rattle.lines.specs.Text.{digit, line_end, event_letter, event_text, later_events, events_text}
-use Rattle.lines.specs.Put.{Put, events_room}
-use Rattle.lines.proofs.Putting.{then_put, put_as}
+use Rattle.lines.specs.Put.{events_room}
+use Rattle.lines.specs.Pieces.{Puts}
+use Rattle.lines.specs.declared.pieces.Line.{Line}
+use Rattle.lines.proofs.Lines.{puts_as}
 
 -- ---- the bytes of an event, and of all
 
@@ -49,61 +58,82 @@ events_few [] = omega arith
 events_few (kind ∷ []) = omega arith
 events_few (kind ∷ tablet ∷ rest) = simp length-append (omega (arith, later_few rest, event_few kind tablet))
 
--- ---- one after the other
+-- ---- the text of an event by its kind
 
--- with fewer than two bytes left there are no more events
-none_later : (events : List ℕ) → length events < 2 → later_events events ≡ line_end
-unfolding later_events
-none_later [] h = refl
-none_later (kind ∷ []) h = refl
-none_later (kind ∷ tablet ∷ rest) h = absurd (omega arith)
+abbrev text_by : Result Kind UnknownKind → ℕ → List ℕ
+text_by (Ok Read) tablet = words "R" ++ (digit tablet ∷ [])
+text_by (Ok Write) tablet = words "W" ++ (digit tablet ∷ [])
+text_by (Ok Stabilize) tablet = words "S"
+text_by (Ok Failed) tablet = words "SF"
+text_by (Ok Up) tablet = words "U" ++ (digit tablet ∷ [])
+text_by (Ok Down) tablet = words "D" ++ (digit tablet ∷ [])
+text_by (Err e) tablet = words "?" ++ (digit tablet ∷ [])
 
-pub no_events : (events : List ℕ) → length events < 2 → events_text events ≡ line_end
+-- a byte that stands for no kind
+text_of_none : (kind tablet : ℕ) → 7 ≤ kind → text_by (kind_of kind) tablet ≡ event_text kind tablet
+unfolding event_text event_letter
+text_of_none kind tablet h =
+    rw (ne_eqb kind 1 (λ e. omega arith), ne_eqb kind 2 (λ e. omega arith), ne_eqb kind 3 (λ e. omega arith), ne_eqb kind 4 (λ e. omega arith), ne_eqb kind 5 (λ e. omega arith), ne_eqb kind 6 (λ e. omega arith))
+
+text_of_kind : (kind tablet : ℕ) → text_by (kind_of kind) tablet ≡ event_text kind tablet
+unfolding event_text event_letter
+text_of_kind zero tablet = refl
+text_of_kind (suc zero) tablet = refl
+text_of_kind (suc (suc zero)) tablet = refl
+text_of_kind (suc (suc (suc zero))) tablet = refl
+text_of_kind (suc (suc (suc (suc zero)))) tablet = refl
+text_of_kind (suc (suc (suc (suc (suc zero))))) tablet = refl
+text_of_kind (suc (suc (suc (suc (suc (suc zero)))))) tablet = refl
+text_of_kind (suc (suc (suc (suc (suc (suc (suc more))))))) tablet = text_of_none (suc (suc (suc (suc (suc (suc (suc more))))))) tablet (omega arith)
+
+-- what is put for the kind that a byte stands for is the text of its event
+pub event_by : {l m : Line} (kind tablet : ℕ) (k : Result Kind UnknownKind) → k ≡ kind_of kind → Puts (text_by k tablet) l m → Puts (event_text kind tablet) l m
+event_by kind tablet k e p = puts_as (ap (λ z. text_by z tablet) e ∙ text_of_kind kind tablet) p
+
+-- ---- one event after the other, each in a chunk of two bytes
+
+pub later_text : List (List ℕ) → List ℕ
+later_text [] = line_end
+later_text (event ∷ rest) = words " " ++ (event_text (get_or event 0 0) (get_or event 1 0) ++ later_text rest)
+
+later_in : (count : ℕ) (events : List ℕ) → count ≡ length events / 2 → later_text (first_chunks 2 count events) ≡ later_events events
+unfolding later_text later_events
+later_in zero [] h = refl
+later_in zero (kind ∷ []) h = refl
+later_in zero (kind ∷ tablet ∷ rest) h = absurd (omega arith)
+later_in (suc count) [] h = absurd (omega arith)
+later_in (suc count) (kind ∷ []) h = absurd (omega arith)
+later_in (suc count) (kind ∷ tablet ∷ rest) h =
+    ap (λ (l : List ℕ). words " " ++ (event_text kind tablet ++ l)) (later_in count rest (omega arith))
+
+-- the line, where the chunks are a first one and later ones, or none
+pub some_events : (events first : List ℕ) (later : List (List ℕ)) → first_chunks 2 (length events / 2) events ≡ first ∷ later
+    → event_text (get_or first 0 0) (get_or first 1 0) ++ later_text later ≡ events_text events
+unfolding events_text
+some_events [] first later e = cc
+some_events (kind ∷ []) first later e = cc
+some_events (kind ∷ tablet ∷ rest) first later e =
+    let more : length (kind ∷ tablet ∷ rest) / 2 ≡ suc (length rest / 2) = omega arith in
+    let split : (kind ∷ tablet ∷ []) ∷ first_chunks 2 (length rest / 2) rest ≡ first ∷ later = rw more at e in
+    let front : kind ∷ tablet ∷ [] ≡ first = cc in
+    let back : first_chunks 2 (length rest / 2) rest ≡ later = cc in
+    rw (← front, ← back) (ap (λ (l : List ℕ). event_text kind tablet ++ l) (later_in (length rest / 2) rest refl))
+
+pub no_events : (events : List ℕ) → length events / 2 ≡ 0 → line_end ≡ events_text events
 unfolding events_text
 no_events [] h = refl
 no_events (kind ∷ []) h = refl
 no_events (kind ∷ tablet ∷ rest) h = absurd (omega arith)
 
--- two bytes that are there
-two_there : (events : List ℕ) (i : ℕ) → i + 1 < length events → drop i events ≡ get_or events i 0 ∷ get_or events (i + 1) 0 ∷ drop (i + 2) events
-two_there events i h =
-    let g : suc i < length events = omega arith in
-    rw (add-one, add-two) (drop-cons events i 0 (omega arith) ∙ ap (λ (l : List ℕ). get_or events i 0 ∷ l) (drop-cons events (suc i) 0 g))
+-- what is left from a chunk on: that one, and then the next ones
+pub next_event : (later : List (List ℕ)) (i : ℕ) → i < length later
+    → later_text (drop i later) ≡ words " " ++ (event_text (get_or (get_or later i []) 0 0) (get_or (get_or later i []) 1 0) ++ later_text (drop (i + 1) later))
+unfolding later_text
+next_event later i h = rw (add-one, drop-cons later i [] h)
 
--- Whatever puts the events that are left from byte i on, from here, puts all after the first, from where they began.
-pub record Reached (events out₀ : List ℕ) (at₀ : ℕ) (out : List ℕ) (at i : ℕ) : Type 0 where
-  pub within : i ≤ length events
-  pub kept : length out ≡ length out₀
-  pub completes : (next : ℕ) (last : List ℕ) → Put (later_events (drop i events)) out at next last
-      → Put (later_events (drop 2 events)) out₀ at₀ next last
-
-pub at_second : (events out : List ℕ) (at : ℕ) → 2 ≤ length events → Reached events out at out at 2
-at_second events out at h = record { within = h; kept = refl; completes = λ next last p. p }
-
-pub one_more : (events out₀ out one two : List ℕ) (at₀ at m k i : ℕ) → Reached events out₀ at₀ out at i → 1 < length events - i → length two ≡ length out
-    → Put (words " ") out at m one → Put (event_text (get_or events i 0) (get_or events (i + 1) 0)) one m k two
-    → Reached events out₀ at₀ two k (i + 2)
-unfolding later_events
-one_more events out₀ out one two at₀ at m k i r h l p q =
-    record {
-      within = omega arith;
-      kept = l ∙ r.kept;
-      completes = λ next last rest.
-          r.completes next last
-          (rw (two_there events i (omega arith)) (then_put (words " ") _ out one at m next last p (then_put _ _ one two m k next last q rest)));
-    }
-
-pub all_put : (events out₀ out : List ℕ) (at₀ at i next : ℕ) (last : List ℕ) → Reached events out₀ at₀ out at i → length events - i ≤ 1
-    → Put line_end out at next last → Put (later_events (drop 2 events)) out₀ at₀ next last
-all_put events out₀ out at₀ at i next last r h p =
-    let short : length (drop i events) < 2 = rw length-drop (omega arith) in
-    r.completes next last (put_as out at next last (sym (none_later (drop i events) short)) p)
-
--- the first, and then the others
-pub first_put : (events out between : List ℕ) (middle next : ℕ) (last : List ℕ) → 2 ≤ length events
-    → Put (event_text (get_or events 0 0) (get_or events 1 0)) out 0 middle between
-    → Put (later_events (drop 2 events)) between middle next last → Put (events_text events) out 0 next last
-unfolding events_text
-first_put [] out between middle next last h p q = absurd (omega arith)
-first_put (kind ∷ []) out between middle next last h p q = absurd (omega arith)
-first_put (kind ∷ tablet ∷ rest) out between middle next last h p q = then_put _ _ out between 0 middle next last p q
+pub none_left : (later : List (List ℕ)) (i : ℕ) → length later ≤ i → later_text (drop i later) ≡ line_end
+unfolding later_text
+none_left [] zero h = refl
+none_left [] (suc i) h = refl
+none_left (event ∷ rest) zero h = absurd (omega arith)
+none_left (event ∷ rest) (suc i) h = none_left rest i (omega arith)

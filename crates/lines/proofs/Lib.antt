@@ -1,7 +1,9 @@
 pub mod Putting
+pub mod Lines
 pub mod Decimal
 pub mod Said
 pub mod Events
+pub mod Values
+pub mod Records
 pub mod Answers
 pub mod Worked
-pub mod Values

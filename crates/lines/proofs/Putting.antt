@@ -4,12 +4,12 @@ use mathlib.Core.Bool.{Bool, true, false, cond}
 use mathlib.Core.List.{List, [], ◌∷◌, ◌++◌, append_assoc}
 use mathlib.Core.Path.{◌≡◌, refl, sym, ap, ap₂, ◌∙◌, subst}
 use Prim.Native.Nat.{ℕ, ◌+◌, ◌-◌, ◌≤◌, ◌<◌}
-use native.Mathlib.Nat.{zero-add}
+use native.Mathlib.Nat.{zero-add, add-zero}
 use native.Mathlib.Numerals.{add-one}
 use native.Mathlib.Omega.{arith}
 use lib.Dec.{ltb}
 use borrow.Author.Tests.{lt-ltb, le-ltb}
-use lib.ListN.{length, take, drop, set, length-append, length-drop}
+use lib.ListN.{length, take, drop, set, take-append-drop, length-append, length-drop}
 use lib.Seq.{length-take-le, take_at, drop-drop, set_split, drop-append-add}
 use Rattle.lines.specs.Put.{Stands, Put, written, after}
 
@@ -27,6 +27,11 @@ stood text out at next last s = λ fits. s
 pub standing : (text out : List ℕ) (at next : ℕ) (last : List ℕ) → at + length text ≤ length out → Put text out at next last → Stands text out at next last
 unfolding Put
 standing text out at next last fits p = p fits
+
+-- nothing is put anywhere
+pub nothing_put : (out : List ℕ) (at : ℕ) → Put [] out at at out
+unfolding Put
+nothing_put out at = λ fits. record { ends = sym (add-zero at); bytes = sym (ap (λ (n : ℕ). take at out ++ drop n out) (add-zero at) ∙ take-append-drop at out) }
 
 -- a byte is stored
 pub byte_put : (byte at : ℕ) (out : List ℕ) → at < length out → Put (byte ∷ []) out at (at + 1) (set out at byte)
@@ -109,24 +114,24 @@ after_put first second third out between at middle next last p q =
 
 -- ---- a whole line
 
-abbrev pub Line : ℕ → List ℕ → List ℕ → ℕ → List ℕ → Type 0
-Line room text out count last = (count ≡ written room text out) × (last ≡ after room text out)
+abbrev pub Whole : ℕ → List ℕ → List ℕ → ℕ → List ℕ → Type 0
+Whole room text out count last = (count ≡ written room text out) × (last ≡ after room text out)
 
 -- where there is room for the longest, the line stands at the front
 pub line_put : (room : ℕ) (text out : List ℕ) (count : ℕ) (last : List ℕ) → room ≤ length out → length text ≤ room
-    → Put text out 0 count last → Line room text out count last
+    → Put text out 0 count last → Whole room text out count last
 unfolding Put written after
 line_put room text out count last enough short p =
     let s = p (omega arith) in
     rw (le-ltb (length out) room enough) (s.ends ∙ omega arith, s.bytes ∙ ap (λ (n : ℕ). text ++ drop n out) (zero-add (length text)))
 
 -- otherwise nothing is written
-pub line_kept : (room : ℕ) (text out : List ℕ) → length out < room → Line room text out 0 out
+pub line_kept : (room : ℕ) (text out : List ℕ) → length out < room → Whole room text out 0 out
 unfolding written after
 line_kept room text out h = rw (lt-ltb (length out) room h) (refl, refl)
 
 -- what is written lies within the bytes
-pub within : (room : ℕ) (text out : List ℕ) (count : ℕ) (last : List ℕ) → Line room text out count last → count ≤ length last
+pub within : (room : ℕ) (text out : List ℕ) (count : ℕ) (last : List ℕ) → Whole room text out count last → count ≤ length last
 unfolding written after
 within room text out count last p = go (ltb (length out) room) p.0 p.1
   where

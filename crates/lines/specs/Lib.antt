@@ -1,4 +1,5 @@
 pub mod Words
 pub mod Text
 pub mod Put
+pub mod Pieces
 pub mod Notation

@@ -1,85 +1,113 @@
-// The pieces of a line, put one after the other: each is put from a place on and gives the place after it. A piece that does
-// not fit is left out.
+// The pieces of a line, put one after the other. A piece that does not fit is left out.
 ghost use Rattle.std.specs.Prelude.{◌≡◌, [], ◌∷◌, ◌++◌};
-ghost use Rattle.lines.specs.Text.{decimal, event_letter, event_text};
-ghost use Rattle.lines.specs.Put.{Put};
+ghost use Rattle.lines.specs.Text.{decimal, digit, line_end, event_text, events_text};
+ghost use Rattle.lines.specs.Pieces.{Puts};
 
-// Puts one byte.
-pub fn put_byte(byte: u8, out: &mut [u8], at: usize) -> usize
-    ensures { Put (byte ∷ []) out.old at result out.new }
-{
-    if at < out.len() {
-        out[at] = byte;
-        return at + 1;
-    }
-    at
+use model::Kind;
+
+// The bytes that are lent for a line, and the place in them that the line has reached.
+#[derive(Drop)]
+pub struct Line<'a> {
+    pub out: &'a mut [u8],
+    pub at: usize,
 }
 
-// Puts some words.
-pub fn put(words: &[u8], out: &mut [u8], at: usize) -> usize
-    ensures { Put words.now out.old at result out.new }
-{
-    let size = words.len();
-    if out.len() < size {
-        return at;
+impl<'a> Line<'a> {
+    // A line that begins at the front of the bytes.
+    pub fn begin(out: &'a mut [u8]) -> Line<'a>
+        ensures same { result.out.ghost_name ≡ out.entry.ghost_name }
+        ensures bytes { result.out.now ≡ out.old }
+        ensures at { result.at ≡ 0 }
+    {
+        Line { out, at: 0 }
     }
-    if out.len() - size < at {
-        return at;
-    }
-    let next = at + size;
-    out[at..next].copy_from_slice(words);
-    next
-}
 
-// Puts a number, in decimal digits.
-pub fn put_decimal(number: u32, out: &mut [u8], at: usize) -> usize
-    ensures { Put (decimal number) out.old at result out.new }
-{
-    let digit = 48 + (number % 10) as u8;
-    if number < 10 {
-        return put_byte(digit, out, at);
+    // Puts one byte.
+    pub fn put_byte(&mut self, byte: u8)
+        ensures { Puts (byte ∷ []) self.old self.new }
+    {
+        if self.at < self.out.len() {
+            self.out[self.at] = byte;
+            self.at += 1;
+        }
     }
-    let next = put_decimal(number / 10, out, at);
-    put_byte(digit, out, next)
-}
 
-// Puts some words and then a number.
-pub fn put_number(words: &[u8], number: u32, out: &mut [u8], at: usize) -> usize
-    ensures { Put (words.now ++ decimal number) out.old at result out.new }
-{
-    let next = put(words, out, at);
-    put_decimal(number, out, next)
-}
+    // Puts some words.
+    pub fn put(&mut self, words: &[u8])
+        ensures { Puts words.now self.old self.new }
+    {
+        let size = words.len();
+        if self.out.len() < size {
+            return;
+        }
+        if self.out.len() - size < self.at {
+            return;
+        }
+        let next = self.at + size;
+        self.out[self.at..next].copy_from_slice(words);
+        self.at = next;
+    }
 
-// The letter for the events of a tablet: R, W, U, D, and a question mark for a kind that has none.
-fn letter(kind: u8) -> u8
-    ensures { result ∷ [] ≡ event_letter kind }
-{
-    if kind == 1 {
-        return b'R';
+    // Puts a number, in decimal digits.
+    pub fn put_decimal(&mut self, number: u32)
+        ensures { Puts (decimal number) self.old self.new }
+    {
+        if 10 <= number {
+            self.put_decimal(number / 10);
+        }
+        self.put_byte(b'0' + (number % 10) as u8)
     }
-    if kind == 2 {
-        return b'W';
-    }
-    if kind == 5 {
-        return b'U';
-    }
-    if kind == 6 {
-        return b'D';
-    }
-    b'?'
-}
 
-// Puts an event.
-pub fn put_event(kind: u8, tablet: u8, out: &mut [u8], at: usize) -> usize
-    ensures { Put (event_text kind tablet) out.old at result out.new }
-{
-    if kind == 3 {
-        return put(b"S", out, at);
+    // Puts some words and then a number.
+    pub fn put_number(&mut self, words: &[u8], number: u32)
+        ensures { Puts (words.now ++ decimal number) self.old self.new }
+    {
+        self.put(words);
+        self.put_decimal(number)
     }
-    if kind == 4 {
-        return put(b"SF", out, at);
+
+    // Puts some words and a number, and ends the line.
+    pub fn put_last(&mut self, words: &[u8], number: u32)
+        ensures { Puts (words.now ++ (decimal number ++ line_end)) self.old self.new }
+    {
+        self.put_number(words, number);
+        self.put(b"\n")
     }
-    let next = put_byte(letter(kind), out, at);
-    put_byte(48 + tablet % 10, out, next)
+
+    // Puts the letter of an event and its tablet's digit; of a tablet above 9, the last one.
+    fn put_at(&mut self, letter: u8, tablet: u8)
+        ensures { Puts ((letter ∷ []) ++ (digit tablet ∷ [])) self.old self.new }
+    {
+        self.put_byte(letter);
+        self.put_byte(b'0' + tablet % 10)
+    }
+
+    // Puts an event by its two bytes, with a question mark for a kind that has no letter.
+    pub fn put_event(&mut self, kind: u8, tablet: u8)
+        ensures { Puts (event_text kind tablet) self.old self.new }
+    {
+        match Kind::try_from(kind) {
+            Ok(Kind::Read) => self.put_at(b'R', tablet),
+            Ok(Kind::Write) => self.put_at(b'W', tablet),
+            Ok(Kind::Stabilize) => self.put(b"S"),
+            Ok(Kind::Failed) => self.put(b"SF"),
+            Ok(Kind::Up) => self.put_at(b'U', tablet),
+            Ok(Kind::Down) => self.put_at(b'D', tablet),
+            Err(_) => self.put_at(b'?', tablet),
+        }
+    }
+
+    // Puts the events, which are two bytes each, and ends the line.
+    pub fn put_events(&mut self, events: &[u8])
+        ensures { Puts (events_text events.now) self.old self.new }
+    {
+        if let Some((first, later)) = events.as_chunks::<2>().0.split_first() {
+            self.put_event(first[0], first[1]);
+            for event in later {
+                self.put(b" ");
+                self.put_event(event[0], event[1]);
+            }
+        }
+        self.put(b"\n")
+    }
 }

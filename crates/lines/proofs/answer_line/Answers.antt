@@ -1,13 +1,13 @@
--- `lines::answer_line` meets its contract: nothing in too little room, and otherwise the whole line.
+-- `lines::answer_line` meets its contract: the whole line, or nothing in too little room.
 -- Assumes nothing.
-use Rattle.lines.proofs.Putting.{line_kept}
-use Rattle.lines.proofs.Said.{answer_put}
+use borrow.Author.Rules.{rules}
+use Rattle.verdict.specs.Judged.{told}
+use Rattle.lines.specs.Text.{answer_text}
+use Rattle.lines.proofs.Said.{answer_short}
+use Rattle.lines.proofs.Lines.{made_line}
 use Rattle.lines.proofs.answer_line.Goals as goal
-
-pub returns-then-out-lt-LINE : goal.returns-then-out-lt-LINE
-returns-then-out-lt-LINE c =
-    let both = line_kept _ _ _ c.if-out-lt-LINE.true in record { result = both.0; out = both.1 }
 
 pub returns : goal.returns
 returns c =
-    let both = answer_put _ _ _ _ _ _ _ _ _ c.if-out-lt-LINE.false c.put_number-next.ensures c.put-last.ensures c.put_said.ensures in record { result = both.0; out = both.1 }
+    let both = made_line {text = answer_text c.args.trace (told c.args.verdict)} c.make_line.ensures (λ l m p. search rules) (answer_short c.args.trace _) in
+    record { result = both.0; out = both.1 }

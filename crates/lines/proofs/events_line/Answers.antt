@@ -1,18 +1,27 @@
--- `lines::events_line` meets its contract: nothing in too little room, and otherwise the whole line.
+-- `lines::events_line` meets its contract: the whole line, or nothing in too little room.
 -- Assumes nothing.
+use borrow.Author.Rules.{rules}
 use native.Mathlib.Omega.{arith}
-use Rattle.lines.proofs.Putting.{line_put, line_kept}
+use mathlib.Core.Path.{◌≡◌}
+use Prim.Native.Nat.{ℕ, ◌<◌, ◌^◌, ◌≤◌}
+use lib.ListN.{length}
+use Rattle.std.proofs.lemmas.Grind.{common_steps}
+use Rattle.lines.specs.Put.{events_room}
+use Rattle.lines.specs.Text.{events_text}
+use Rattle.lines.proofs.Putting.{line_kept}
+use Rattle.lines.proofs.Lines.{made_line}
 use Rattle.lines.proofs.Events.{events_few}
 use Rattle.lines.proofs.events_line.Goals as goal
 
-pub returns-then-out-lt1 : goal.returns-then-out-lt1
-returns-then-out-lt1 c =
-    let both = line_kept _ _ _ (omega arith) in record { result = both.0; out = both.1 }
-
-pub returns-then-out-events : goal.returns-then-out-events
-returns-then-out-events c =
-    let both = line_kept _ _ _ (omega arith) in record { result = both.0; out = both.1 }
-
 pub returns : goal.returns
 returns c =
-    let both = line_put _ _ _ _ _ (omega arith) (events_few _) c.put_events.ensures in record { result = both.0; out = both.1 }
+    let room : c.in-Some.room ≡ events_room c.args.events.now = grind (arith, common_steps) in
+    let both = made_line {text = events_text c.args.events.now} (rw room at c.make_line.ensures) (λ l m p. search rules) (events_few c.args.events.now) in
+    record { result = both.0; out = both.1 }
+
+pub returns-in_default : goal.returns-in_default
+returns-in_default c =
+    let large : 2 ^ 64 ≤ events_room c.args.events.now = grind (arith, common_steps) in
+    let less : length c.args.out.now < 2 ^ 64 = search rules in
+    let both = line_kept (events_room c.args.events.now) (events_text c.args.events.now) c.args.out.now (omega arith) in
+    record { result = both.0; out = both.1 }

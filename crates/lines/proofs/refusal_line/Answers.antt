@@ -1,13 +1,15 @@
--- `lines::refusal_line` meets its contract: nothing in too little room, and otherwise the whole line.
+-- `lines::refusal_line` meets its contract: the whole line, or nothing in too little room.
 -- Assumes nothing.
-use Rattle.lines.proofs.Putting.{line_kept}
-use Rattle.lines.proofs.Said.{file_refused_put}
+use borrow.Author.Rules.{rules}
+use native.Mathlib.Omega.{arith}
+use Rattle.tracefile.specs.Refusals.{refusal as refusal_of}
+use Rattle.lines.specs.Text.{refused_text}
+use Rattle.lines.proofs.Said.{refusal_short}
+use Rattle.lines.proofs.Lines.{made_line}
 use Rattle.lines.proofs.refusal_line.Goals as goal
 
-pub returns-then-out-lt-LINE : goal.returns-then-out-lt-LINE
-returns-then-out-lt-LINE c =
-    let both = line_kept _ _ _ c.if-out-lt-LINE.true in record { result = both.0; out = both.1 }
-
 pub returns : goal.returns
+unfolding refused_text
 returns c =
-    let both = file_refused_put _ _ _ _ _ _ c.if-out-lt-LINE.false c.number_and_place-by.ensures c.put_refusal.ensures in record { result = both.0; out = both.1 }
+    let both = made_line {text = refused_text (refusal_of c.args.refusal)} c.make_line.ensures (λ l m p. search rules) (rw (← c.number_and_place-by.ensures) (omega (arith, refusal_short c.number_and_place-by.result.number c.number_and_place-by.result.place))) in
+    record { result = both.0; out = both.1 }

@@ -1,14 +1,13 @@
--- `lines::trace_line` meets its contract: the line, or nothing where the room is too little.
+-- `lines::trace_line` meets its contract: the whole line, or nothing in too little room.
 -- Assumes nothing.
-use native.Mathlib.Omega.{arith}
-use Rattle.lines.proofs.Putting.{line_kept}
-use Rattle.lines.proofs.Said.{trace_put}
+use borrow.Author.Rules.{rules}
+use Rattle.lines.specs.Text.{heading_text}
+use Rattle.lines.proofs.Said.{heading_short}
+use Rattle.lines.proofs.Lines.{made_line}
 use Rattle.lines.proofs.trace_line.Goals as goal
 
-pub returns-then-out-lt-LINE : goal.returns-then-out-lt-LINE
-returns-then-out-lt-LINE c =
-    let both = line_kept _ _ _ (omega arith) in record { result = both.0; out = both.1 }
-
 pub returns : goal.returns
+unfolding heading_text
 returns c =
-    let both = trace_put _ _ _ _ (omega arith) c.put_last.ensures in record { result = both.0; out = both.1 }
+    let both = made_line {text = heading_text c.args.trace} c.make_line.ensures (λ l m p. search rules) (heading_short c.args.trace) in
+    record { result = both.0; out = both.1 }

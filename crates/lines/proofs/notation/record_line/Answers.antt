@@ -1,14 +1,13 @@
--- `lines::notation::record_line` meets its contract: the line, or nothing where the room is too little.
+-- `lines::notation::record_line` meets its contract: the whole line, or nothing in too little room.
 -- Assumes nothing.
+use borrow.Author.Rules.{rules}
 use native.Mathlib.Omega.{arith}
-use Rattle.lines.proofs.Putting.{line_put, line_kept}
+use Rattle.lines.specs.Notation.{record_text}
 use Rattle.lines.proofs.Values.{record_few}
+use Rattle.lines.proofs.Lines.{made_line}
 use Rattle.lines.proofs.notation.record_line.Goals as goal
-
-pub returns-then-out-lt-RECORD : goal.returns-then-out-lt-RECORD
-returns-then-out-lt-RECORD c =
-    let both = line_kept _ _ _ (omega arith) in record { result = both.0; out = both.1 }
 
 pub returns : goal.returns
 returns c =
-    let both = line_put _ _ _ _ _ (omega arith) (record_few c.args.given (omega arith)) c.put_record.ensures in record { result = both.0; out = both.1 }
+    let both = made_line {text = record_text c.args.given} c.make_line.ensures (λ l m p. search rules) (record_few c.args.given (omega arith)) in
+    record { result = both.0; out = both.1 }

@@ -1,6 +1,0 @@
--- The measure is the number.
--- Assumes nothing.
-use Rattle.lines.proofs.pieces.+put_decimal.Given as goal
-
-abbrev pub decreases-put_decimal : goal.decreases-put_decimal
-decreases-put_decimal l = l.number
