@@ -3,14 +3,13 @@
 use mathlib.Core.List.{List, [], ◌++◌, append_assoc}
 use mathlib.Core.Path.{◌≡◌, refl, sym, ◌∙◌}
 use Prim.Native.Nat.{ℕ, ◌≤◌}
-use native.Mathlib.Omega.{arith}
 use lib.Dec.{ltb}
 use lib.ListN.{length}
 use borrow.Author.Tests.{ltb-true, ltb-false}
 use mathlib.Core.Bool.{Bool, true, false}
 use Rattle.lines.specs.Text.{decimal}
 use Rattle.lines.specs.declared.pieces.Line.{Line}
-use Rattle.lines.specs.Pieces.{Puts, Ran, Made}
+use Rattle.lines.specs.Pieces.{Puts, Made}
 use Rattle.lines.proofs.Putting.{Whole, then_put, put_as, nothing_put, line_put, line_kept}
 
 -- the same text, written otherwise

@@ -4,13 +4,20 @@ use Prim.Native.Nat.{ℕ, ◌≤◌}
 use native.Mathlib.Omega.{arith}
 use lib.ListN.{length, length-append}
 use Rattle.verdict.specs.Judged.{Said, explained_by, unexplained_in, undecided_at, refused}
-use Rattle.lines.specs.Text.{refusal_text, said_text, answer_text, heading_text}
+use Rattle.tracefile.specs.Refusals as R
+use Rattle.lines.specs.Text.{refusal_text, refused_text, said_text, answer_text, heading_text}
 use Rattle.lines.specs.Put.{line_room}
 use Rattle.lines.proofs.Decimal.{ten_digits}
 
-pub refusal_short : (number place : ℕ) → length (refusal_text number place) ≤ 33
+refusal_short : (number place : ℕ) → length (refusal_text number place) ≤ 33
 unfolding refusal_text
 refusal_short number place = simp length-append (omega (arith, ten_digits number, ten_digits place))
+
+-- and the line of a refused file, if it is refused
+pub refused_short : (a : R.Answer) → length (refused_text a) ≤ line_room
+unfolding refused_text
+refused_short R.accepted = omega arith
+refused_short (R.refused number place) = omega (arith, refusal_short number place)
 
 said_short : (s : Said) → length (said_text s) ≤ 46
 unfolding said_text

@@ -1,22 +1,19 @@
 -- The values of a set, put one after the other; the lines of records; and that they are short.
 -- Assumes nothing.
 use mathlib.Core.Bool.{Bool, true, false, cond}
-use mathlib.Core.List.{List, [], ◌++◌}
-use mathlib.Core.Path.{◌≡◌, refl, sym, ap, ◌∙◌}
+use mathlib.Core.List.{[], ◌++◌}
+use mathlib.Core.Path.{◌≡◌, refl}
 use Prim.Native.Nat.{ℕ, zero, suc, ◌+◌, ◌-◌, ◌*◌, ◌^◌, ◌≤◌, ◌<◌}
-use native.Mathlib.Nat.{add-zero}
 use native.Mathlib.Omega.{arith}
 use lib.Dec.{eqb}
-use lib.ListN.{length, take, drop, take-append-drop, length-append}
-use borrow.Author.Tests.{eq-eqb, ne_eqb, eqb-false}
+use lib.ListN.{length, length-append}
+use borrow.Author.Tests.{ne_eqb, eqb-false}
 use Rattle.marks.specs.Sets.{has, lowest}
 use Rattle.marks.proofs.Laws.{lowest_below}
 use Rattle.records.specs.declared.Record.{Record}
 use Rattle.lines.specs.Words.{words}
 use Rattle.lines.specs.Text.{decimal, line_end}
-use Rattle.lines.specs.Put.{Put}
 use Rattle.lines.specs.Notation.{later_values, values_text, found_text, record_text, record_room}
-use Rattle.lines.proofs.Putting.{then_put, after_put, put_as}
 use Rattle.lines.proofs.Decimal.{two_digits, ten_digits}
 
 -- ---- one value after the other

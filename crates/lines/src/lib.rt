@@ -15,7 +15,7 @@ ghost use Rattle.lines.specs.Pieces.{Puts, KeepsBytes, Made};
 
 pub use notation::record_line;
 use pieces::Line;
-use tracefile::Refusal;
+use tracefile::{Numbered, Refusal};
 use verdict::Verdict;
 
 // The room for the longest line of an answer or a refusal.
@@ -23,40 +23,35 @@ pub const LINE: usize = 80;
 
 impl Line<'_> {
     // Puts a refusal by its number and its place.
-    fn put_refusal(&mut self, number: u32, place: u32)
-        ensures { Puts (refusal_text number place) self.old self.new }
+    fn put_refusal(&mut self, by: Numbered)
+        ensures { Puts (refusal_text by.number by.place) self.old self.new }
     {
-        self.put_number(b"refused ", number);
-        self.put_last(b" at ", place)
+        self.put_number(b"refused ", by.number);
+        self.put_last(b" at ", by.place)
     }
 
     // Puts what is said of a trace.
-    fn put_said(&mut self, verdict: Verdict)
-        ensures { Puts (said_text (told verdict)) self.old self.new }
+    fn put_said(&mut self, said: Result<Verdict, verdict::Refusal>)
+        ensures { Puts (said_text (told said)) self.old self.new }
     {
-        match verdict {
-            Verdict::Explained { points, events } => {
+        match said {
+            Ok(Verdict::Explained { points, events }) => {
                 self.put_number(b"explained points ", points);
                 self.put_last(b" events ", events)
             }
-            Verdict::Unexplained { points } => self.put_last(b"unexplained points ", points),
-            Verdict::Undecided { points } => self.put_last(b"undecided points ", points),
-            Verdict::Refused(refusal) => {
-                let by = tracefile::number_and_place(refusal);
-                self.put_refusal(by.number, by.place)
-            }
-            Verdict::NoRoom => self.put_refusal(9, 0),
-            Verdict::TooDeep => self.put_refusal(10, 0),
+            Ok(Verdict::Unexplained { points }) => self.put_last(b"unexplained points ", points),
+            Ok(Verdict::Undecided { points }) => self.put_last(b"undecided points ", points),
+            Err(refusal) => self.put_refusal(Numbered::from(refusal)),
         }
     }
 
     // Puts the number of a trace and what is said of it.
-    fn put_answer(&mut self, trace: u32, verdict: Verdict)
-        ensures { Puts (answer_text trace (told verdict)) self.old self.new }
+    fn put_answer(&mut self, trace: u32, said: Result<Verdict, verdict::Refusal>)
+        ensures { Puts (answer_text trace (told said)) self.old self.new }
     {
         self.put_number(b"trace ", trace);
         self.put(b" ");
-        self.put_said(verdict)
+        self.put_said(said)
     }
 }
 
@@ -76,11 +71,11 @@ fn make_line<F: FnOnce(&mut Line<'_>)>(room: usize, out: &mut [u8], pieces: F) -
 
 // Writes the line for a trace: its number and what is said of it. Gives the number of bytes written, and 0 where the room is
 // too little.
-pub fn answer_line(trace: u32, verdict: Verdict, out: &mut [u8]) -> usize
-    ensures result { result ≡ written line_room (answer_text trace (told verdict)) out.old }
-    ensures out { out.new ≡ after line_room (answer_text trace (told verdict)) out.old }
+pub fn answer_line(trace: u32, said: Result<Verdict, verdict::Refusal>, out: &mut [u8]) -> usize
+    ensures result { result ≡ written line_room (answer_text trace (told said)) out.old }
+    ensures out { out.new ≡ after line_room (answer_text trace (told said)) out.old }
 {
-    make_line(LINE, out, |line| line.put_answer(trace, verdict))
+    make_line(LINE, out, |line| line.put_answer(trace, said))
 }
 
 // Writes the line that opens the listing of a trace: its number. Gives the number of bytes written, and 0 where the room is
@@ -97,8 +92,7 @@ pub fn refusal_line(refusal: Refusal, out: &mut [u8]) -> usize
     ensures result { result ≡ written line_room (refused_text (refusal_of refusal)) out.old }
     ensures out { out.new ≡ after line_room (refused_text (refusal_of refusal)) out.old }
 {
-    let by = tracefile::number_and_place(refusal);
-    make_line(LINE, out, |line| line.put_refusal(by.number, by.place))
+    make_line(LINE, out, |line| line.put_refusal(Numbered::from(refusal)))
 }
 
 // Writes the line of the events of an explanation, which are two bytes each. Gives the number of bytes written, and 0 where
@@ -107,7 +101,10 @@ pub fn events_line(events: &[u8], out: &mut [u8]) -> usize
     ensures result { result ≡ written (events_room events.now) (events_text events.now) out.old }
     ensures out { out.new ≡ after (events_room events.now) (events_text events.now) out.old }
 {
-    let Some(room) = (events.len() / 2).checked_mul(3).and_then(|parted| parted.checked_add(1)) else {
+    let Some(room) = (events.len() / 2)
+        .checked_mul(3)
+        .and_then(|parted| parted.checked_add(1))
+    else {
         return 0;
     };
     make_line(room, out, |line| line.put_events(events))

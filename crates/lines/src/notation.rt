@@ -20,10 +20,10 @@ impl Line<'_> {
         if set == 0 {
             return;
         }
-        let lowest = marks::lowest64(set);
+        let lowest = marks::lowest(set);
         self.put_decimal(u32::from(lowest));
         for value in lowest + 1..64 {
-            if marks::has64(set, value) {
+            if marks::has(set, value) {
                 self.put_number(b",", u32::from(value));
             }
         }

@@ -9,5 +9,5 @@ use Rattle.lines.proofs.answer_line.Goals as goal
 
 pub returns : goal.returns
 returns c =
-    let both = made_line {text = answer_text c.args.trace (told c.args.verdict)} c.make_line.ensures (λ l m p. search rules) (answer_short c.args.trace _) in
+    let both = made_line {text = answer_text c.args.trace (told c.args.said)} c.make_line.ensures (λ l m p. search rules) (answer_short c.args.trace _) in
     record { result = both.0; out = both.1 }

@@ -3,7 +3,7 @@
 use borrow.Author.Rules.{rules}
 use native.Mathlib.Omega.{arith}
 use mathlib.Core.Path.{◌≡◌}
-use Prim.Native.Nat.{ℕ, ◌<◌, ◌^◌, ◌≤◌}
+use Prim.Native.Nat.{◌<◌, ◌^◌, ◌≤◌}
 use lib.ListN.{length}
 use Rattle.std.proofs.lemmas.Grind.{common_steps}
 use Rattle.lines.specs.Put.{events_room}

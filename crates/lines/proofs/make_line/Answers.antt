@@ -10,13 +10,13 @@ returns g c =
     let same = c.requires.keeps c.begin-line.result c.pieces.new.arg2 (search rules) in
     record {
       ran = λ h. record {
-          from = c.begin-line.result;
-          to = c.pieces.new.arg2;
-          goes = search rules;
-          front = c.begin-line.ensures.at;
-          bytes = c.begin-line.ensures.bytes;
-          ends = refl;
-          leaves = search (rules, same);
-        };
+        from = c.begin-line.result;
+        to = c.pieces.new.arg2;
+        goes = search rules;
+        front = c.begin-line.ensures.at;
+        bytes = c.begin-line.ensures.bytes;
+        ends = refl;
+        leaves = search (rules, same);
+      };
       kept = λ h. absurd (omega arith);
     }

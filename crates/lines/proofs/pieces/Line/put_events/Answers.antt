@@ -2,7 +2,7 @@
 -- Assumes nothing.
 use mathlib.Core.Path.{◌∙◌, sym}
 use Rattle.lines.specs.Words.{words}
-use Rattle.lines.proofs.Lines.{puts_as, then_puts, once_put, one_more}
+use Rattle.lines.proofs.Lines.{puts_as, once_put, one_more}
 use Rattle.lines.proofs.Events.{some_events, no_events, next_event, none_left}
 use Rattle.lines.proofs.pieces.Line.put_events.Goals as goal
 use Rattle.lines.proofs.pieces.Line.put_events.Goals.{in-Some+else-loop-event-test, in_default}
@@ -16,5 +16,6 @@ loop-event-preserved c =
 
 pub returns : goal.returns
 returns c = elim c.match-split_first.branch [
-    in-Some+else-loop-event-test w ↦ w.loop-event.invariant.puts _ (rw (none_left _ _ w.loop-event-test.false, ← w.self-is) c.put-2.ensures)
-  | in_default w ↦ puts_as (no_events _ (sym c.as_chunks.ensures.front_len ∙ w.in_default.ensures.cases)) (rw w.self-is at c.put-2.ensures) ]
+  | in-Some+else-loop-event-test w ↦ w.loop-event.invariant.puts _ (rw (none_left _ _ w.loop-event-test.false, ← w.self-is) c.put-2.ensures)
+  | in_default w ↦ puts_as (no_events _ (sym c.as_chunks.ensures.front_len ∙ w.in_default.ensures.cases)) (rw w.self-is at c.put-2.ensures)
+]

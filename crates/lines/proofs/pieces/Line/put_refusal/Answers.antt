@@ -7,4 +7,4 @@ use Rattle.lines.proofs.pieces.Line.put_refusal.Goals as goal
 
 pub returns : goal.returns
 unfolding refusal_text
-returns c = after_number (words "refused ") c.args.number c.put_number.ensures c.put_last.ensures
+returns c = after_number (words "refused ") c.args.by.number c.put_number.ensures c.put_last.ensures

@@ -1,30 +1,30 @@
 -- `lines::pieces::Line::put_said` meets its contract, case by case.
 -- Assumes nothing.
+use borrow.Author.Rules.{rules}
+use mathlib.Core.Path.{◌≡◌}
+use Rattle.std.specs.Prelude.{Ok}
+use Rattle.verdict.specs.declared.Verdict.TheVariants.{Explained, Unexplained, Undecided}
 use Rattle.lines.specs.Words.{words}
 use Rattle.lines.specs.Text.{said_text}
 use Rattle.lines.proofs.Lines.{after_number}
 use Rattle.lines.proofs.pieces.Line.put_said.Goals as goal
 
-pub returns-in-Explained : goal.returns-in-Explained
+pub returns-in-Ok-Explained : goal.returns-in-Ok-Explained
 unfolding said_text
-returns-in-Explained c = rw c.in-Explained.is (after_number (words "explained points ") c.in-Explained.points c.put_number.ensures c.put_last.ensures)
+returns-in-Ok-Explained c =
+    let said : c.args.said ≡ Ok (Explained c.in-Ok-Explained.points c.in-Ok-Explained.events) = search rules in
+    rw said (after_number (words "explained points ") c.in-Ok-Explained.points c.put_number.ensures c.put_last.ensures)
 
-pub returns-in-Unexplained : goal.returns-in-Unexplained
+pub returns-in-Ok-Unexplained : goal.returns-in-Ok-Unexplained
 unfolding said_text
-returns-in-Unexplained c = rw c.in-Unexplained.is c.put_last-in-Unexplained.ensures
+returns-in-Ok-Unexplained c =
+    let said : c.args.said ≡ Ok (Unexplained c.in-Ok-Unexplained.points) = search rules in rw said c.put_last-in-Ok-Unexplained.ensures
 
-pub returns-in-Undecided : goal.returns-in-Undecided
+pub returns-in-Ok-Undecided : goal.returns-in-Ok-Undecided
 unfolding said_text
-returns-in-Undecided c = rw c.in-Undecided.is c.put_last-in-Undecided.ensures
+returns-in-Ok-Undecided c =
+    let said : c.args.said ≡ Ok (Undecided c.in-Ok-Undecided.points) = search rules in rw said c.put_last-in-Ok-Undecided.ensures
 
-pub returns-in-Refused : goal.returns-in-Refused
+pub returns-in-Err : goal.returns-in-Err
 unfolding said_text
-returns-in-Refused c = rw (c.in-Refused.is, ← c.number_and_place-by.ensures) c.put_refusal.ensures
-
-pub returns-in-NoRoom : goal.returns-in-NoRoom
-unfolding said_text
-returns-in-NoRoom c = rw c.in-NoRoom.is c.put_refusal-in-NoRoom.ensures
-
-pub returns-in-TooDeep : goal.returns-in-TooDeep
-unfolding said_text
-returns-in-TooDeep c = rw c.in-TooDeep.is c.put_refusal-in-TooDeep.ensures
+returns-in-Err c = rw (c.in-Err.is, ← c.from.ensures) c.put_refusal.ensures
