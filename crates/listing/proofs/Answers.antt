@@ -3,12 +3,12 @@
 -- Assumes nothing.
 use Prim.Native.Nat.{ℕ}
 use mathlib.Core.List.{List}
-use mathlib.Core.Path.{◌≡◌, sym, ap₂, ◌∙◌}
+use mathlib.Core.Path.{◌≡◌, sym, ap, ap₂, ◌∙◌}
 use denote.Ref.{Bor}
 use Rattle.std.specs.Prelude.{Option}
 use Rattle.records.specs.Records.{next_record}
 use Rattle.records.specs.declared.Record.{Record}
-use Rattle.listing.specs.Positions.{position}
+use Rattle.listing.specs.Positions.{position, Gives}
 use Rattle.listing.specs.declared.Listing.{Listing}
 use Rattle.listing.proofs.position_after.Kinds as position_after_kinds
 use Rattle.listing.proofs.position_after.Reads as position_after_reads
@@ -36,3 +36,11 @@ advance listing x y p q = same_reader x y (p.0 ∙ sym q.0) (p.1 ∙ sym q.1)
 
 step_from : (body : List ℕ) (at : ℕ) (x y : Option Record × ℕ) → x ≡ next_record body at → y ≡ next_record body at → x ≡ y
 step_from body at x y p q = p ∙ sym q
+
+-- a call of a reader's `next`, on what it gives and on what it leaves
+iterator_next : (s t u : Listing) (x y : Option Record) → Gives s x t → Gives s y u → (x ≡ y) × (t ≡ u)
+iterator_next s t u x y p q =
+    let same = p.2 ∙ sym q.2 in (
+      ap (λ (step : Option Record × ℕ). step.0) same,
+      same_reader t u (p.1 ∙ sym q.1) (ap (λ (step : Option Record × ℕ). step.1) same),
+    )

@@ -3,8 +3,10 @@
 #![tactic(auto)]
 
 ghost use Rattle.std.specs.Prelude.{◌≡◌};
+ghost use Rattle.std.specs.Iterator.{item_count};
+ghost use Rattle.std.specs.Iterator.Runs.{YieldsInOrder};
 ghost use Rattle.records.specs.Records.{next_record};
-ghost use Rattle.listing.specs.Positions.{position};
+ghost use Rattle.listing.specs.Positions.{position, left, Gives};
 
 use records::Record;
 
@@ -14,9 +16,11 @@ pub struct Listing<'a> {
     pub at: usize,
 }
 
-// A reader on a body, at its first record.
+// A reader on a body, at its first record. A `for` over it, as over any reader, gives the records that it has left.
+#[tactic(auto, using(crate::proofs::Theorems::in_order))]
 pub fn start<'a>(body: &'a [u8]) -> Listing<'a>
-    ensures { (result.body ≡ body.entry) × (result.at ≡ 0) }
+    ensures reader { (result.body ≡ body.entry) × (result.at ≡ 0) }
+    ensures in_order { YieldsInOrder Gives left }
 {
     Listing { body, at: 0 }
 }
@@ -39,10 +43,9 @@ pub fn position_after(body: &[u8], at: usize) -> usize
 pub fn advance<'a>(listing: Listing<'a>) -> Listing<'a>
     ensures { (result.body ≡ listing.entry.body) × (result.at ≡ position (next_record listing.entry.body.now listing.entry.at)) }
 {
-    let at = position_after(listing.body, listing.at);
     Listing {
-        body: listing.body,
-        at,
+        at: position_after(listing.body, listing.at),
+        ..listing
     }
 }
 
@@ -51,4 +54,20 @@ pub fn step_from(body: &[u8], at: usize) -> (Option<Record>, usize)
     ensures { result ≡ next_record body.now at }
 {
     next(Listing { body, at })
+}
+
+// The records of the body from the reader's position on, in order, and then the end for ever.
+impl Iterator for Listing<'_> {
+    type Item = Record;
+
+    ghost next_gives = { Gives };
+
+    ghost remaining = { item_count left };
+
+    #[tactic(auto, using(crate::proofs::Theorems::first_left, crate::proofs::Theorems::nearer))]
+    fn next(&mut self) -> Option<Record> {
+        let (record, after) = records::next(self.body, self.at);
+        self.at = after;
+        record
+    }
 }
