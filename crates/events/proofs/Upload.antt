@@ -8,7 +8,7 @@ use Rattle.marks.specs.Sets.{add, remove, only}
 use Rattle.model.specs.Model.{seat, local_of, fresh_at, wins, joins, then}
 use Rattle.model.specs.declared.State.{State}
 use Rattle.model.specs.declared.Event.TheVariants.{Up}
-use Rattle.model.proofs.Sound.{and_true}
+use Rattle.std.proofs.lemmas.Bool.{and_parts}
 
 -- the state after an UP at t, with these in the place of the conflict set, the server's value and the fresh marks
 abbrev pub uploaded : State → ℕ → ℕ → ℕ → ℕ → State
@@ -26,7 +26,7 @@ by_tests s t w j p q =
 one_of_two : (s : State) (t : ℕ) → wins s t ≡ true → joins s t ≡ false
 unfolding wins joins
 one_of_two s t h =
-    let f = and_true (fresh_at s t) (not (eqb (local_of s t) s.server)) h in
+    let f = and_parts (fresh_at s t) (not (eqb (local_of s t) s.server)) h in
     ap (λ (b : Bool). not b && (not (eqb (local_of s t) s.server) && not (eqb (local_of s t) 0))) f.0
 
 pub won : (s : State) (t : ℕ) → wins s t ≡ true → then s (Up t) ≡ uploaded s t s.conflicts (local_of s t) (only s.fresh (seat t))

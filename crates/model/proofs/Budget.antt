@@ -2,7 +2,7 @@
 -- Assumes nothing.
 use mathlib.Core.Bool.{Bool, true, false, cond}
 use mathlib.Core.List.{List}
-use mathlib.Core.Path.{◌≡◌, refl, sym, ap, ◌∙◌, subst}
+use mathlib.Core.Path.{◌≡◌, refl, sym, ◌∙◌, subst}
 use Prim.Native.Nat.{ℕ, suc, ◌≤◌, ◌<◌}
 use native.Mathlib.Nat.{le_trans}
 use native.Mathlib.Omega.{arith}
@@ -14,21 +14,21 @@ module _ {E : Type 0} where
   -- within the budget the cut says what the walk found; beyond it, undecided
   pub kept_found : (b k : ℕ) (es : List E) → k ≤ b → cut b (found k es) ≡ explained k es
   unfolding cut
-  kept_found b k es h = ap (λ (t : Bool). cond t (explained k es) (undecided b)) (le-leb k b h)
+  kept_found b k es h = rw le-leb
 
   pub kept_endless : (b k : ℕ) → k ≤ b → cut {E = E} b (endless k) ≡ unexplained k
   unfolding cut
-  kept_endless b k h = ap (λ (t : Bool). cond t (unexplained k) (undecided b)) (le-leb k b h)
+  kept_endless b k h = rw le-leb
 
   pub kept_stopped : (b k : ℕ) → k < b → cut {E = E} b (stopped k) ≡ too_deep
   unfolding cut
-  kept_stopped b k h = ap (λ (t : Bool). cond t too_deep (undecided b)) (lt-ltb k b h)
+  kept_stopped b k h = rw lt-ltb
 
   -- where the walk needs more points than the budget, it is undecided
   pub spent : (b : ℕ) (w : Walked E) → Unstopped w → b < needed w → cut b w ≡ undecided b
   unfolding cut needed
-  spent b (found k es) u h = ap (λ (t : Bool). cond t (explained k es) (undecided b)) (lt-leb k b h)
-  spent b (endless k) u h = ap (λ (t : Bool). cond t (unexplained k) (undecided b)) (lt-leb k b h)
+  spent b (found k es) u h = rw lt-leb
+  spent b (endless k) u h = rw lt-leb
   spent b (stopped k) u h = absurd u
 
   -- where it does not, it is decided
@@ -69,4 +69,4 @@ module _ {E : Type 0} where
   unfolding needed cut
   none_for_nothing (found k es) h = spent 0 (found k es) tt h
   none_for_nothing (endless k) h = spent 0 (endless k) tt h
-  none_for_nothing (stopped k) h = ap (λ (t : Bool). cond t too_deep (undecided 0)) (lt-leb (suc k) 0 (omega arith))
+  none_for_nothing (stopped k) h = rw (lt-leb (suc k) 0 (omega arith))

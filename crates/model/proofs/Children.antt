@@ -5,8 +5,6 @@ use mathlib.Core.List.Memᴰ
 use mathlib.Core.List.{List, [], ◌∷◌, ◌++◌, map, Memᴰ, tail-eq_of_cons-eq, head-eq_of_cons-eq}
 use mathlib.Core.Logic.{◌⊎◌, inl, inr, ⊎_elim}
 use mathlib.Core.Path.{◌≡◌, refl, sym, ap, ◌∙◌}
-use Prim.Native.Nat.{ℕ}
-use native.Mathlib.Omega.{arith}
 use Rattle.model.specs.Walk.{Service, Lawful, Choice, kept, only_possible, choice, choices, children}
 
 module _ {S O E : Type 0} (𝓢 : Service S O E) where
@@ -18,7 +16,7 @@ module _ {S O E : Type 0} (𝓢 : Service S O E) where
   kept_head : (b : Bool) (c x : Choice O E) (cs : List (Choice O E)) → x ≡ c → b ≡ true → Memᴰ x (kept 𝓢 b c cs)
   unfolding kept
   kept_head true c x cs e h = Memᴰ.head e
-  kept_head false c x cs e h = let z : ◌≡◌ {A = ℕ} 0 1 = cc in absurd (omega arith)
+  kept_head false c x cs e h = cc
 
   kept_tail : (b : Bool) (c x : Choice O E) (cs : List (Choice O E)) → Memᴰ x cs → Memᴰ x (kept 𝓢 b c cs)
   unfolding kept
@@ -62,7 +60,7 @@ module _ {S O E : Type 0} (𝓢 : Service S O E) where
           let h = Memᴰ.of_map (choice 𝓢 (o ∷ obs)) 𝓢.hidden t in
           ap (λ (y : Choice O E). 𝓢.shown y.event ++ y.left) (sym h.2) ∙ ap (λ (l : List O). l ++ o ∷ obs) (𝓛.unseen h.0 h.1))
           (Memᴰ.cases_cons {l = map (choice 𝓢 (o ∷ obs)) 𝓢.hidden} m),
-      λ e. let z : ◌≡◌ {A = ℕ} 0 1 = cc in omega arith,
+      λ e. cc,
     )
 
     pub child : (s : S) (obs : List O) (c : Choice O E) → Memᴰ c (children 𝓢 s obs) → Child s obs c

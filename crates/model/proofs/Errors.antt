@@ -14,14 +14,14 @@ use Rattle.model.specs.Model.{seat, mark_at, local_of, fresh_at, dirty_at, is_ta
 use Rattle.model.specs.declared.State.{State}
 use Rattle.model.specs.declared.Observation.TheVariants.{Write, Stabilize}
 use Rattle.model.specs.declared.Event.TheVariants.{Observed, Up, Down}
-use Rattle.model.proofs.Sound.{and_true}
+use Rattle.std.proofs.lemmas.Bool.{and_parts}
 
 -- "A dirty tablet only uploads."
 pub only_uploads : (n : ℕ) (s : State) (t : ℕ) → may n s (Down t) ≡ true → dirty_at s t ≡ false
 unfolding may
 only_uploads n s t h =
-    let a = and_true (is_tablet n t) (not (fresh_at s t) && not (dirty_at s t)) h in
-    not-true (dirty_at s t) (and_true (not (fresh_at s t)) (not (dirty_at s t)) a.1).1
+    let a = and_parts (is_tablet n t) (not (fresh_at s t) && not (dirty_at s t)) h in
+    not-true (dirty_at s t) (and_parts (not (fresh_at s t)) (not (dirty_at s t)) a.1).1
 
 -- "It stays stale until DOWN", whatever its UP does.
 pub stays_stale : (s : State) (t : ℕ) → fresh_at s t ≡ false → fresh_at (then s (Up t)) t ≡ false
@@ -42,15 +42,15 @@ pub equal_sets : (n : ℕ) (s : State) (x c : ℕ) → may n s (Observed (Stabil
 unfolding may
 equal_sets n s x c h =
     let settled = all_fresh_and_clean n s.fresh s.dirty in
-    let a = and_true (eqb s.server x) (eqb s.conflicts c && settled) h in
-    eqb-true s.conflicts c (and_true (eqb s.conflicts c) settled a.1).0
+    let a = and_parts (eqb s.server x) (eqb s.conflicts c && settled) h in
+    eqb-true s.conflicts c (and_parts (eqb s.conflicts c) settled a.1).0
 
 -- "Every tablet fresh and clean", so that none is stale and none is dirty.
 every_member : (p : ℕ → Bool) (ts : List ℕ) (t : ℕ) → every p ts ≡ true → Memᴰ t ts → p t ≡ true
 unfolding every
 every_member p [] t h m = absurd (Memᴰ.not-nil m)
 every_member p (u ∷ ts) t h m =
-    let a = and_true (p u) (every p ts) h in
+    let a = and_parts (p u) (every p ts) h in
     ⊎_elim (λ e. ap p e ∙ a.0) (λ k. every_member p ts t a.1 k) (Memᴰ.cases_cons m)
 
 pub none_stale_none_dirty : (n : ℕ) (s : State) (x c t : ℕ) → may n s (Observed (Stabilize x c)) ≡ true → Memᴰ t (tablets n)
@@ -58,9 +58,9 @@ pub none_stale_none_dirty : (n : ℕ) (s : State) (x c t : ℕ) → may n s (Obs
 unfolding may all_fresh_and_clean
 none_stale_none_dirty n s x c t h m =
     let settled = all_fresh_and_clean n s.fresh s.dirty in
-    let a = and_true (eqb s.server x) (eqb s.conflicts c && settled) h in
-    let b = (and_true (eqb s.conflicts c) settled a.1).1 in
-    let k = and_true (fresh_at s t) (not (dirty_at s t)) (every_member (fresh_and_clean s.fresh s.dirty) (tablets n) t b m) in
+    let a = and_parts (eqb s.server x) (eqb s.conflicts c && settled) h in
+    let b = (and_parts (eqb s.conflicts c) settled a.1).1 in
+    let k = and_parts (fresh_at s t) (not (dirty_at s t)) (every_member (fresh_and_clean s.fresh s.dirty) (tablets n) t b m) in
     (k.0, not-true (dirty_at s t) k.1)
 
 -- "If its local value is neither the server value nor 0, it joins the conflict set": 0 never does.

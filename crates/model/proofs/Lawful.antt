@@ -17,7 +17,7 @@ use Rattle.model.specs.declared.Observation.{Observation}
 use Rattle.model.specs.declared.Event.{Event}
 use Rattle.model.specs.declared.Event.TheVariants.{Observed, Up, Down}
 use Rattle.model.proofs.Once.{once_append, once_map}
-use Rattle.model.proofs.Sound.{and_true}
+use Rattle.std.proofs.lemmas.Bool.{and_parts}
 
 -- ---- the tablets from 1 to k
 
@@ -47,8 +47,8 @@ up_to_once (suc k) =
 there : (n t : ℕ) (b : Bool) → (is_tablet n t && b) ≡ true → Memᴰ t (tablets n)
 unfolding is_tablet tablets
 there n t b h =
-    let q = and_true (is_tablet n t) b h in
-    let r = and_true (leb 1 t) (leb t (seats n)) q.0 in
+    let q = and_parts (is_tablet n t) b h in
+    let r = and_parts (leb 1 t) (leb t (seats n)) q.0 in
     up_to_has (seats n) t (leb-true 1 t r.0) (leb-true t (seats n) r.1)
 
 -- ---- the hidden events
@@ -68,7 +68,7 @@ hidden_once n =
     (λ e m h.
     let a = (Memᴰ.of_map Up (tablets n) m).2 in
     let b = (Memᴰ.of_map Down (tablets n) h).2 in
-    let z : ◌≡◌ {A = ℕ} 0 1 = cc in omega arith)
+    cc)
 
 known : (n : ℕ) (s : State) (e : Event) → may n s e ≡ true → ((o : Observation) × (e ≡ Observed o)) ⊎ Memᴰ e (hidden n)
 unfolding may hidden

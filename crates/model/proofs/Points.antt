@@ -8,11 +8,10 @@ use mathlib.Core.Logic.{⊎_elim}
 use mathlib.Core.Path.{◌≡◌, refl, sym, ap, ◌∙◌, subst}
 use Prim.Native.Nat.{ℕ, zero, suc, zero-le, suc-le-suc}
 use native.Mathlib.Nat.{le_of_suc-le-suc, not-suc-le-zero}
-use native.Mathlib.Omega.{arith}
 use Rattle.model.specs.Walk.{Service, Lawful, Once, Choice, possible, trace, kept, only_possible, choice, choices, children, points, below, Point}
 use Rattle.model.proofs.Children.{Child, child, a_child, possible_in}
 use Rattle.model.proofs.Once.{once_append, once_map}
-use Rattle.model.proofs.Sound.{and_true}
+use Rattle.std.proofs.lemmas.Bool.{and_parts}
 
 module _ {S O E : Type 0} (𝓢 : Service S O E) where
   events : List (Choice O E) → List E
@@ -97,7 +96,7 @@ module _ {S O E : Type 0} (𝓢 : Service S O E) where
       λ m.
           let u = 𝓛.unseen (𝓢.observed o) (back (o ∷ obs) 𝓢.hidden (𝓢.observed o) m) in
           let v = 𝓛.seen o in
-          let z : ◌≡◌ {A = ℕ} 0 1 = cc in omega arith,
+          cc,
       once_choice (o ∷ obs) 𝓢.hidden 𝓛.once,
     )
 
@@ -109,7 +108,7 @@ module _ {S O E : Type 0} (𝓢 : Service S O E) where
       λ m.
           let r = under (λ c. points 𝓢 d (𝓢.then s c.event) c.left) (children 𝓢 s obs) [] m in
           let b = r.begins in
-          let z : ◌≡◌ {A = ℕ} 0 1 = cc in omega arith,
+          cc,
       once_below (λ c. points 𝓢 d (𝓢.then s c.event) c.left) (children 𝓢 s obs)
           (λ c. points_once d (𝓢.then s c.event) c.left) (once_possible s (choices 𝓢 obs) (once_choices obs)),
     )
@@ -128,8 +127,8 @@ module _ {S O E : Type 0} (𝓢 : Service S O E) where
         }
       where
         none : (q : List E) (e : E) (r : List E) → [] ≡ q ++ e ∷ r → ⊥
-        none [] e r h = let z : ◌≡◌ {A = ℕ} 0 1 = cc in omega arith
-        none (x ∷ q) e r h = let z : ◌≡◌ {A = ℕ} 0 1 = cc in omega arith
+        none [] e r h = cc
+        none (x ∷ q) e r h = cc
 
     down : (d : ℕ) (s : S) (obs : List O) (c : Choice O E) (p : List E) → Child 𝓢 s obs c → Point 𝓢 d (𝓢.then s c.event) c.left p
         → Point 𝓢 (suc d) s obs (c.event ∷ p)
@@ -168,7 +167,7 @@ module _ {S O E : Type 0} (𝓢 : Service S O E) where
     unfolding possible trace
     up d s obs e p c ev u x left h =
         record {
-          each_possible = ap (λ (a : E). possible 𝓢 (𝓢.then s a) p) ev ∙ (and_true (𝓢.may s e) (possible 𝓢 (𝓢.then s e) p) x.each_possible).1;
+          each_possible = ap (λ (a : E). possible 𝓢 (𝓢.then s a) p) ev ∙ (and_parts (𝓢.may s e) (possible 𝓢 (𝓢.then s e) p) x.each_possible).1;
           left = left;
           used = h;
           within = le_of_suc-le-suc x.within;
@@ -183,7 +182,7 @@ module _ {S O E : Type 0} (𝓢 : Service S O E) where
     point_is zero s obs (e ∷ p) x = absurd (not-suc-le-zero x.within)
     point_is (suc d) s obs [] x = Memᴰ.head refl
     point_is (suc d) s obs (e ∷ p) x =
-        let a = a_child 𝓢 𝓛 s obs e (trace 𝓢 p ++ x.left) (and_true (𝓢.may s e) (possible 𝓢 (𝓢.then s e) p) x.each_possible).0
+        let a = a_child 𝓢 𝓛 s obs e (trace 𝓢 p ++ x.left) (and_parts (𝓢.may s e) (possible 𝓢 (𝓢.then s e) p) x.each_possible).0
         (sym (append_assoc (𝓢.shown e) (trace 𝓢 p) x.left) ∙ x.used) (λ z. x.no_end_before [] e p refl (sym z)) in
         Memᴰ.cast (ap (λ (y : E). y ∷ p) (sym a.2))
         (Memᴰ.tail

@@ -1,6 +1,6 @@
 -- A found end explains the trace, and where the walk ends with no end and no depth stop, nothing explains it.
 -- Assumes nothing.
-use mathlib.Core.Bool.{Bool, true, false, ◌&&◌}
+use mathlib.Core.Bool.{Bool, true, ◌&&◌}
 use mathlib.Core.List.Memᴰ
 use mathlib.Core.List.{List, [], ◌∷◌, ◌++◌, Memᴰ}
 use mathlib.Core.Logic.{⊎_elim}
@@ -8,12 +8,10 @@ use mathlib.Core.Path.{◌≡◌, refl, sym, ap, ◌∙◌, subst}
 use Prim.Native.Nat.{ℕ, zero, suc, ◌≤◌, ◌<◌, suc-le-suc}
 use native.Mathlib.Omega.{arith}
 use lib.ListN.{length}
+use Rattle.std.proofs.lemmas.Bool.{and_parts}
+pub use Rattle.std.proofs.lemmas.Bool.{and_parts as and_true}
 use Rattle.model.specs.Walk.{Service, Lawful, Choice, Explains, possible, trace, children, Walked, found, endless, stopped, after, or_else, tried, visited, walked, needed}
 use Rattle.model.proofs.Children.{Child, child, a_child}
-
-pub and_true : (a b : Bool) → (a && b) ≡ true → (a ≡ true) × (b ≡ true)
-and_true true b h = (refl, h)
-and_true false b h = let z : ◌≡◌ {A = ℕ} 0 1 = cc in absurd (omega arith)
 
 module _ {S O E : Type 0} (𝓢 : Service S O E) where
   -- where trying the choices finds an end, one of them found it
@@ -28,12 +26,12 @@ module _ {S O E : Type 0} (𝓢 : Service S O E) where
   after_found : (j k : ℕ) (w : Walked E) (es : List E) → after 𝓢 j w ≡ found k es → (i : ℕ) × (w ≡ found i es)
   unfolding after
   after_found j k (found i es') es h = (i, cc)
-  after_found j k (endless i) es h = let z : ◌≡◌ {A = ℕ} 0 1 = cc in absurd (omega arith)
-  after_found j k (stopped i) es h = let z : ◌≡◌ {A = ℕ} 0 1 = cc in absurd (omega arith)
+  after_found j k (endless i) es h = cc
+  after_found j k (stopped i) es h = cc
 
   tried_found : (f : Choice O E → Walked E) (cs : List (Choice O E)) (k : ℕ) (es : List E) → tried 𝓢 f cs ≡ found k es → Hit f cs es
   unfolding tried
-  tried_found f [] k es h = let z : ◌≡◌ {A = ℕ} 0 1 = cc in absurd (omega arith)
+  tried_found f [] k es h = cc
   tried_found f (c ∷ cs) k es h = go (λ i. tried_found f cs i es) (f c) refl h
     where
       later : Hit f cs es → Hit f (c ∷ cs) es
@@ -42,14 +40,14 @@ module _ {S O E : Type 0} (𝓢 : Service S O E) where
       go : ((i : ℕ) → tried 𝓢 f cs ≡ found i es → Hit f cs es) → (w : Walked E) → f c ≡ w → or_else 𝓢 c.event w (tried 𝓢 f cs) ≡ found k es → Hit f (c ∷ cs) es
       go ih (found j es') e g = record { by = c; points = j; rest = es'; among = Memᴰ.head refl; finds = e; events = cc }
       go ih (endless j) e g = let r = after_found j k (tried 𝓢 f cs) es g in later (ih r.0 r.1)
-      go ih (stopped j) e g = let z : ◌≡◌ {A = ℕ} 0 1 = cc in absurd (omega arith)
+      go ih (stopped j) e g = cc
 
   -- where trying the choices finds no end and is not stopped, none of them does or is
   after_endless : (j k : ℕ) (w : Walked E) → after 𝓢 j w ≡ endless k → (i : ℕ) × (w ≡ endless i)
   unfolding after
-  after_endless j k (found i es) h = let z : ◌≡◌ {A = ℕ} 0 1 = cc in absurd (omega arith)
+  after_endless j k (found i es) h = cc
   after_endless j k (endless i) h = (i, refl)
-  after_endless j k (stopped i) h = let z : ◌≡◌ {A = ℕ} 0 1 = cc in absurd (omega arith)
+  after_endless j k (stopped i) h = cc
 
   tried_endless : (f : Choice O E → Walked E) (cs : List (Choice O E)) (k : ℕ) → tried 𝓢 f cs ≡ endless k
       → (c : Choice O E) → Memᴰ c cs → (j : ℕ) × (f c ≡ endless j)
@@ -59,12 +57,12 @@ module _ {S O E : Type 0} (𝓢 : Service S O E) where
     where
       go : ((i : ℕ) → tried 𝓢 f cs ≡ endless i → (x : Choice O E) → Memᴰ x cs → (j : ℕ) × (f x ≡ endless j))
           → (w : Walked E) → f b ≡ w → or_else 𝓢 b.event w (tried 𝓢 f cs) ≡ endless k → (j : ℕ) × (f c ≡ endless j)
-      go ih (found j es) e g = let z : ◌≡◌ {A = ℕ} 0 1 = cc in absurd (omega arith)
+      go ih (found j es) e g = cc
       go ih (endless j) e g =
           ⊎_elim (λ q. (j, ap f q ∙ e))
           (λ t. let r = after_endless j k (tried 𝓢 f cs) g in ih r.0 r.1 c t)
           (Memᴰ.cases_cons m)
-      go ih (stopped j) e g = let z : ◌≡◌ {A = ℕ} 0 1 = cc in absurd (omega arith)
+      go ih (stopped j) e g = cc
 
   -- the root is a point
   after_some : (k : ℕ) (w : Walked E) → 0 < k → 0 < needed (after 𝓢 k w)
@@ -96,7 +94,7 @@ module _ {S O E : Type 0} (𝓢 : Service S O E) where
   pub found_within : (d : ℕ) (s : S) (obs : List O) (k : ℕ) (es : List E) → walked 𝓢 d s obs ≡ found k es → length es ≤ d
   unfolding walked
   found_within zero s obs k es h =
-      visited_within (λ c. stopped 0) 0 s obs k es (λ c j r q. let z : ◌≡◌ {A = ℕ} 0 1 = cc in absurd (omega arith)) h
+      visited_within (λ c. stopped 0) 0 s obs k es (λ c j r q. cc) h
   found_within (suc d) s obs k es h =
       visited_within (λ c. walked 𝓢 d (𝓢.then s c.event) c.left) (suc d) s obs k es
       (λ c j r q. suc-le-suc (found_within d (𝓢.then s c.event) c.left j r q)) h
@@ -129,7 +127,7 @@ module _ {S O E : Type 0} (𝓢 : Service S O E) where
     pub found_explains : (d : ℕ) (s : S) (obs : List O) (k : ℕ) (es : List E) → walked 𝓢 d s obs ≡ found k es → Explains 𝓢 s obs es
     unfolding walked
     found_explains zero s obs k es h =
-        visited_found (λ c. stopped 0) s obs k es (λ c j r q. let z : ◌≡◌ {A = ℕ} 0 1 = cc in absurd (omega arith)) h
+        visited_found (λ c. stopped 0) s obs k es (λ c j r q. cc) h
     found_explains (suc d) s obs k es h =
         visited_found (λ c. walked 𝓢 d (𝓢.then s c.event) c.left) s obs k es
         (λ c j r q. found_explains d (𝓢.then s c.event) c.left j r q) h
@@ -144,12 +142,12 @@ module _ {S O E : Type 0} (𝓢 : Service S O E) where
     child_endless : (d : ℕ) (s : S) (obs : List O) (k : ℕ) → walked 𝓢 d s obs ≡ endless k → (c : Choice O E) → Memᴰ c (children 𝓢 s obs)
         → (i : ℕ) × (j : ℕ) × (walked 𝓢 i (𝓢.then s c.event) c.left ≡ endless j)
     unfolding walked visited
-    child_endless zero s [] k h c m = let z : ◌≡◌ {A = ℕ} 0 1 = cc in absurd (omega arith)
+    child_endless zero s [] k h c m = cc
     child_endless zero s (o ∷ obs) k h c m =
         let a = after_endless 1 k (tried 𝓢 (λ x. stopped 0) (children 𝓢 s (o ∷ obs))) h in
         let r = tried_endless (λ x. stopped 0) (children 𝓢 s (o ∷ obs)) a.0 a.1 c m in
-        let z : ◌≡◌ {A = ℕ} 0 1 = cc in absurd (omega arith)
-    child_endless (suc d) s [] k h c m = let z : ◌≡◌ {A = ℕ} 0 1 = cc in absurd (omega arith)
+        cc
+    child_endless (suc d) s [] k h c m = cc
     child_endless (suc d) s (o ∷ obs) k h c m =
         let f : Choice O E → Walked E = λ x. walked 𝓢 d (𝓢.then s x.event) x.left in
         let a = after_endless 1 k (tried 𝓢 f (children 𝓢 s (o ∷ obs))) h in
@@ -161,13 +159,13 @@ module _ {S O E : Type 0} (𝓢 : Service S O E) where
     none [] d s obs k h p t =
         let e : walked 𝓢 d s [] ≡ endless k = ap (walked 𝓢 d s) t ∙ h in
         let g = at_end d s in
-        let z : ◌≡◌ {A = ℕ} 0 1 = cc in omega arith
+        cc
     none (e ∷ es) d s [] k h p t =
         let g = at_end d s in
-        let z : ◌≡◌ {A = ℕ} 0 1 = cc in omega arith
+        cc
     none (e ∷ es) d s (o ∷ obs) k h p t =
-        let q = and_true (𝓢.may s e) (possible 𝓢 (𝓢.then s e) es) p in
-        let c = a_child 𝓢 𝓛 s (o ∷ obs) e (trace 𝓢 es) q.0 t (λ y. let z : ◌≡◌ {A = ℕ} 0 1 = cc in omega arith) in
+        let q = and_parts (𝓢.may s e) (possible 𝓢 (𝓢.then s e) es) p in
+        let c = a_child 𝓢 𝓛 s (o ∷ obs) e (trace 𝓢 es) q.0 t (λ y. cc) in
         let r = child_endless d s (o ∷ obs) k h c.0 c.1 in
         none es r.0 (𝓢.then s c.0.event) c.0.left r.1 r.2
         (ap (λ (x : E). possible 𝓢 (𝓢.then s x) es) c.2 ∙ q.1) (sym c.3)

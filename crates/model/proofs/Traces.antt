@@ -5,7 +5,7 @@ use mathlib.Core.List.{List, [], ◌∷◌, ◌++◌, nil≢cons, tail-eq_of_con
 use mathlib.Core.Logic.{⊎_elim}
 use mathlib.Core.Path.{◌≡◌, refl, sym, ap, ◌∙◌, subst}
 use Rattle.model.specs.Walk.{Service, Lawful, Explains, possible, trace, unless_unseen, to_last}
-use Rattle.model.proofs.Sound.{and_true}
+use Rattle.std.proofs.lemmas.Bool.{and_parts}
 
 module _ {S O E : Type 0} (𝓢 : Service S O E) where
   -- an event in front of an explanation
@@ -25,7 +25,7 @@ module _ {S O E : Type 0} (𝓢 : Service S O E) where
     shorter [] s (o ∷ obs) more x = absurd (nil≢cons x.is_trace)
     shorter (e ∷ es) s [] more x = ([], record { each_possible = refl; is_trace = refl })
     shorter (e ∷ es) s (o ∷ obs) more x =
-        let q = and_true (𝓢.may s e) (possible 𝓢 (𝓢.then s e) es) x.each_possible in
+        let q = and_parts (𝓢.may s e) (possible 𝓢 (𝓢.then s e) es) x.each_possible in
         ⊎_elim
         (λ k.
         let sees : 𝓢.shown e ≡ k.0 ∷ [] = ap 𝓢.shown k.1 ∙ 𝓛.seen k.0 in
@@ -57,7 +57,7 @@ module _ {S O E : Type 0} (𝓢 : Service S O E) where
   cut_possible (e ∷ es) s h = go (trace 𝓢 (e ∷ es)) (cut_possible es (𝓢.then s e) q.1)
     where
       q : (𝓢.may s e ≡ true) × (possible 𝓢 (𝓢.then s e) es ≡ true)
-      q = and_true (𝓢.may s e) (possible 𝓢 (𝓢.then s e) es) h
+      q = and_parts (𝓢.may s e) (possible 𝓢 (𝓢.then s e) es) h
 
       go : (obs : List O) → possible 𝓢 (𝓢.then s e) (to_last 𝓢 es) ≡ true → possible 𝓢 s (unless_unseen 𝓢 obs (e ∷ to_last 𝓢 es)) ≡ true
       go [] ih = refl
