@@ -1,97 +1,24 @@
 -- A written file is good, and is read back as what it was written from.
 -- Assumes nothing.
-use mathlib.Core.Bool.{Bool, true, false, cond, not, ◌||◌}
+use mathlib.Core.Bool.{false}
 use mathlib.Core.List.{List, [], ◌∷◌, ◌++◌}
 use mathlib.Core.Path.{◌≡◌, refl, sym, ap, ap₂, ◌∙◌}
-use Prim.Native.Nat.{ℕ, zero, suc, ◌+◌, ◌-◌, ◌*◌, ◌/◌, ◌≤◌, ◌<◌}
-use native.Mathlib.Nat.{add-sub_cancel, zero-add, add-zero}
+use Prim.Native.Nat.{ℕ, ◌+◌, ◌-◌, ◌*◌, ◌/◌, ◌≤◌, ◌<◌}
+use native.Mathlib.Nat.{add-sub_cancel, zero-add}
 use native.Mathlib.Omega.{arith}
-use lib.Dec.{ltb, eqb}
 use lib.ListN.{length, take, drop, length-append}
 use lib.Seq.{drop-drop}
-use borrow.Author.Tests.{le-ltb, eq-eqb, eqb-true, ltb-false, not-false}
+use borrow.Author.Tests.{le-ltb, eq-eqb}
 use Rattle.records.specs.Bytes.{byte}
-use Rattle.records.specs.Records.{record_at, keeps_row}
 use Rattle.tracefile.specs.Refusals.{accepted}
 use Rattle.tracefile.specs.File.{tablets_in, values_in, bodies_in, outside, entry, offset_in, count_in, body_size, head, contents, records, check, check_trace}
-use Rattle.tracefile.proofs.Loops.{or_false}
 use Rattle.tracefile.proofs.Good.{inside, asked_part}
-use Rattle.writer.specs.Written.{Outcome, wrote, refused, entries_of, file_of, file_size, sum, over, bad_record, fitted, write}
+use Rattle.writer.specs.Written.{entries_of, file_of, file_size, sum, over}
 use Rattle.writer.specs.RoundTrip.{counts_from, counts_in, bodies_from, read_bodies, parted}
 use Rattle.writer.proofs.Laid.{later, few, first_entry, entries_good, Rows, bodies_good}
+use Rattle.writer.proofs.Decided.{Accepted, sum_few}
+use Rattle.writer.proofs.Buffer.{length_entries}
 use Rattle.records.proofs.Parts.{record_drop}
-
--- ---- what acceptance says
-
-passed : (t : Bool) (k p size : ℕ) (next : Outcome) → cond t (refused k p) next ≡ wrote size → (t ≡ false) × (next ≡ wrote size)
-passed true k p size next h = let z : ◌≡◌ {A = ℕ} 0 1 = cc in absurd (omega arith)
-passed false k p size next h = (refl, h)
-
-rows_kept : (n v : ℕ) (rs : List ℕ) (left at size : ℕ) (good : Outcome) → bad_record n v rs left at good ≡ wrote size
-    → Rows n v rs at left × (good ≡ wrote size)
-unfolding bad_record
-rows_kept n v rs zero at size good h = (λ j l. absurd (omega arith), h)
-rows_kept n v rs (suc left) at size good h = go (keeps_row n v (record_at rs at)) refl h (rows_kept n v rs left (at + 12) size good)
-  where
-    go : (b : Bool) → keeps_row n v (record_at rs at) ≡ b → cond b (bad_record n v rs left (at + 12) good) (refused 7 at) ≡ wrote size
-        → (bad_record n v rs left (at + 12) good ≡ wrote size → Rows n v rs (at + 12) left × (good ≡ wrote size))
-        → Rows n v rs at (suc left) × (good ≡ wrote size)
-    go true e g ih =
-        let r = ih g in
-        (λ j l. first j l r.0, r.1)
-      where
-        first : (j : ℕ) → j < suc left → Rows n v rs (at + 12) left → keeps_row n v (record_at rs (at + 12 * j)) ≡ true
-        first zero l k = ap (λ (x : ℕ). keeps_row n v (record_at rs x)) (add-zero at) ∙ e
-        first (suc j) l k =
-            let q : at + 12 * suc j ≡ at + 12 + 12 * j = omega arith in
-            ap (λ (x : ℕ). keeps_row n v (record_at rs x)) q ∙ k j (omega arith)
-    go false e g ih = let z : ◌≡◌ {A = ℕ} 0 1 = cc in absurd (omega arith)
-
-pub record Accepted (n v : ℕ) (counts rs : List ℕ) (room size : ℕ) : Type 0 where
-  pub tablets : outside 1 8 n ≡ false
-  pub values : outside 1 64 v ≡ false
-  pub bodies : outside 1 16 (length counts) ≡ false
-  pub few_each : over counts ≡ false
-  pub total : length rs ≡ 12 * sum counts
-  pub rows : Rows n v rs 0 (length rs / 12)
-  pub size_of : file_size counts rs ≡ size
-  pub fits : file_size counts rs ≤ room
-
-pub accepts : (n v : ℕ) (counts rs : List ℕ) (room size : ℕ) → write n v counts rs room ≡ wrote size → Accepted n v counts rs room size
-unfolding write
-accepts n v counts rs room size h =
-    let a = passed (outside 1 8 n) 3 0 size _ h in
-    let b = passed (outside 1 64 v) 4 0 size _ a.1 in
-    let c = passed (outside 1 16 (length counts)) 5 0 size _ b.1 in
-    let d = passed (over counts || not (eqb (length rs) (12 * sum counts))) 6 0 size _ c.1 in
-    let e = or_false (over counts) (not (eqb (length rs) (12 * sum counts))) d.0 in
-    let r = rows_kept n v rs (length rs / 12) 0 size (fitted counts rs room) d.1 in
-    let g = passed (ltb room (file_size counts rs)) 9 0 size (wrote (file_size counts rs)) r.1 in
-    let s = g.1 in
-    record {
-      tablets = a.0;
-      values = b.0;
-      bodies = c.0;
-      few_each = e.0;
-      total = eqb-true (length rs) (12 * sum counts) (not-false (eqb (length rs) (12 * sum counts)) e.1);
-      rows = r.0;
-      size_of = cc;
-      fits = ltb-false room (file_size counts rs) g.0;
-    }
-
--- few records in few bodies are few
-pub sum_few : (counts : List ℕ) → over counts ≡ false → sum counts ≤ 256 * length counts
-unfolding sum
-sum_few [] o = omega arith
-sum_few (count ∷ counts) o =
-    let w = few count counts o in
-    let r = sum_few counts w.1 in
-    omega arith
-
-entries_length : (counts : List ℕ) (at : ℕ) → length (entries_of at counts) ≡ 4 * length counts
-unfolding entries_of
-entries_length [] at = refl
-entries_length (count ∷ counts) at = let r = entries_length counts (at + 12 * count) in omega arith
 
 -- ---- the file
 
@@ -111,7 +38,7 @@ module _ (n v : ℕ) (counts rs : List ℕ) (room size : ℕ) (w : Accepted n v 
   unfolding file_of
   long =
       let a = length-append (entries_of (entry (length counts)) counts) rs in
-      let b = entries_length counts (entry (length counts)) in
+      let b = length_entries (entry (length counts)) counts in
       omega arith
 
   small : (length counts ≤ 16) × (length f ≤ 65535)
@@ -124,7 +51,7 @@ module _ (n v : ℕ) (counts rs : List ℕ) (room size : ℕ) (w : Accepted n v 
 
   tail_records : drop (entry (length counts)) f ≡ rs
   tail_records =
-      let l : length (entries_of (entry (length counts)) counts) ≡ 4 * length counts = entries_length counts (entry (length counts)) in
+      let l : length (entries_of (entry (length counts)) counts) ≡ 4 * length counts = length_entries (entry (length counts)) counts in
       later f 4 (4 * length counts) (entries_of (entry (length counts)) counts) rs l laid
 
   head_good : head f ≡ accepted

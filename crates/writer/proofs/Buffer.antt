@@ -1,7 +1,7 @@
 -- The file in the buffer, piece by piece: the head, the entries one after the other, and the records.
 -- Assumes nothing.
 use mathlib.Core.List.{List, [], ◌∷◌, ◌++◌, append_assoc}
-use mathlib.Core.Path.{◌≡◌, sym, ap, ◌∙◌}
+use mathlib.Core.Path.{◌≡◌, refl, sym, ap, ◌∙◌}
 use Prim.Native.Nat.{ℕ, ◌+◌, ◌*◌, ◌-◌, ◌≤◌, ◌<◌}
 use native.Mathlib.Numerals.{add-one}
 use native.Mathlib.Omega.{arith}
@@ -31,6 +31,12 @@ entries_on counts i at here = rw (add-one, drop-cons counts i 0 here)
 pub entries_end : (counts : List ℕ) (i at : ℕ) → length counts ≤ i → entries_of at (drop i counts) ≡ []
 unfolding entries_of
 entries_end counts i at h = rw (drop_of_length-le counts h)
+
+-- an entry has 4 bytes
+pub length_entries : (at : ℕ) (counts : List ℕ) → length (entries_of at counts) ≡ 4 * length counts
+unfolding entries_of
+length_entries at [] = refl
+length_entries at (count ∷ counts) = omega (arith, length_entries (at + record_size * count) counts)
 
 -- two parts that are stored one behind the other
 module _ (b x y : List ℕ) (e : ℕ) (room : e + 4 ≤ length b) (two : length x ≡ 2) (more : length y ≡ 2) where

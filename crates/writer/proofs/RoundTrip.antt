@@ -11,6 +11,7 @@ use Rattle.tracefile.specs.Refusals.{accepted}
 use Rattle.tracefile.specs.File.{tablets_in, values_in, bodies_in, entry, check}
 use Rattle.writer.specs.Written.{wrote, file_of, write}
 use Rattle.writer.specs.RoundTrip.{counts_in, read_bodies, parted}
+use Rattle.writer.proofs.Decided.{accepts}
 use Rattle.writer.proofs.Back as B
 use Rattle.writer.proofs.Again as A
 
@@ -26,7 +27,7 @@ pub record ReadsBack (n v : ℕ) (counts records : List ℕ) (size : ℕ) : Type
 
 pub reads_back : (n v : ℕ) (counts records : List ℕ) (room size : ℕ) → write n v counts records room ≡ wrote size → ReadsBack n v counts records size
 reads_back n v counts records room size h =
-    let w = B.accepts n v counts records room size h in
+    let w = accepts n v counts records room size h in
     record {
       good = B.good n v counts records room size w;
       tablets = (B.head_bytes n v counts records room size w).1;
