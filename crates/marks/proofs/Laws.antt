@@ -1,18 +1,20 @@
 -- The laws of sets held as the bits of one number, each over every width at once: what is in a set after an operation, how
 -- large the number is, that two sets with the same members are one, and what the machine's shifts come to. Assumes nothing.
-use mathlib.Core.Path.{◌≡◌, refl, sym, ap, ◌∙◌}
+use mathlib.Core.Path.{◌≡◌, refl, sym, ap, ap₂, ◌∙◌}
 use mathlib.Core.Bool.{Bool, true, false, cond, ◌&&◌, ◌||◌, xor, true≢false, and-true, and-false, or-true, or-false}
-use Prim.Native.Nat.{ℕ, zero, suc, min, ◌*◌, ◌/◌, ◌%◌, ◌^◌, ◌≤◌, ◌<◌}
-use native.Mathlib.Nat.{lt_of_le_of_lt, lt_of_lt_of_le, one-mul, div-one, div_self, div-eq_of_lt, mod-eq_of_lt, zero-div}
-use native.Mathlib.Decide.{dec_lt, ℕ_discrete}
-use native.Mathlib.Numerals.{add-one, one-add}
-use native.Mathlib.Omega.{arith, ne_cases}
+use Prim.Native.Nat.{ℕ, zero, suc, min, max, ◌+◌, ◌*◌, ◌/◌, ◌%◌, ◌^◌, ◌≤◌, ◌<◌}
+use native.Mathlib.Nat.{lt_of_le_of_lt, lt_of_lt_of_le, one-mul, mod-eq_of_lt}
+use native.Mathlib.Decide.{dec_lt}
+use native.Mathlib.Numerals.{add-one}
+use native.Mathlib.Omega.{arith}
 use lib.Arith.{lt-one}
-use lib.Bits.{bit_and, bit_or, bit_xor, and_comm, and_mask, and_shifted, and_le_l, and_le_r, and_shr, and_mod, or_shr, or_mod, or_lt, or_zero_r, or_add_and, xor_zero_r, xor_add_and, xor_shr, xor_mod, xor_lt}
+use lib.Bits.{bit_and, bit_or, bit_xor, and_le_l, or_lt, or_zero_r, or_add_and, xor_zero_r, xor_add_and, xor_lt}
 use lib.Dec.{ltb, eqb}
-use lib.Pow.{pow_pos, pow_mono, pow-lt, shr_lt, shr-shr, ones_lt}
+use lib.Pow.{pow_pos, pow_mono, pow-lt, shr_lt, ones_lt}
 use borrow.Author.Tests.{lt-ltb, le-ltb}
 use lib.Count.{count_trailing_zeros, under}
+use Rattle.std.specs.Int.{bit_at}
+use Rattle.std.proofs.lemmas.Nat.Bits.{bit_at_lowest, bit_at-suc, bit_at-zero, bit_at_and, bit_at_or, bit_at_xor, bit_at-pow_same, bit_at-pow_other, and_pow, bit_at_ones, bit_at-lt, same_from_bits_below, bit_at_above, bit_at_ones_above}
 use Rattle.marks.specs.Sets.{has, add, remove, only, full, lowest}
 
 -- ---- digits and members
@@ -28,78 +30,66 @@ binary (suc zero) h = refl
 binary (suc (suc n)) h = absurd (omega arith)
 
 -- the digit at i is 1 where i is in the set, and 0 where it is not
-digit_has : (s i : ℕ) → s / 2 ^ i % 2 ≡ digit (has s i)
+digit_has : (s i : ℕ) → bit_at s i ≡ digit (has s i)
 unfolding has
-digit_has s i = binary (s / 2 ^ i % 2) (omega arith)
+digit_has s i = binary (bit_at s i) (bit_at-lt s i)
+
+-- a member, by its digit
+has_by : (s i n : ℕ) → bit_at s i ≡ n → has s i ≡ eqb n 1
+unfolding has
+has_by s i n e = ap (λ d. eqb d 1) e
 
 -- an operation that goes digit by digit goes member by member, by the four rows of its table
-module _ (op : ℕ → ℕ → ℕ) (f : Bool → Bool → Bool)
-    (shr : (a b k : ℕ) → op a b / 2 ^ k ≡ op (a / 2 ^ k) (b / 2 ^ k))
-    (low : (a b k : ℕ) → op a b % 2 ^ k ≡ op (a % 2 ^ k) (b % 2 ^ k))
-    (both : eqb (op 1 1) 1 ≡ f true true)
-    (left : eqb (op 1 0) 1 ≡ f true false)
-    (right : eqb (op 0 1) 1 ≡ f false true)
-    (none : eqb (op 0 0) 1 ≡ f false false) where
-  row : (x y : Bool) → eqb (op (digit x) (digit y)) 1 ≡ f x y
+module _ (op on : ℕ → ℕ → ℕ) (f : Bool → Bool → Bool)
+    (by_digit : (a b i : ℕ) → bit_at (op a b) i ≡ on (bit_at a i) (bit_at b i))
+    (both : eqb (on 1 1) 1 ≡ f true true)
+    (left : eqb (on 1 0) 1 ≡ f true false)
+    (right : eqb (on 0 1) 1 ≡ f false true)
+    (none : eqb (on 0 0) 1 ≡ f false false) where
+  row : (x y : Bool) → eqb (on (digit x) (digit y)) 1 ≡ f x y
   row true true = both
   row true false = left
   row false true = right
   row false false = none
 
-  by_digit : (a b i : ℕ) → op a b / 2 ^ i % 2 ≡ op (digit (has a i)) (digit (has b i))
-  by_digit a b i = rw (shr, low (a / 2 ^ i) (b / 2 ^ i) 1, digit_has a i, digit_has b i)
-
   by_member : (a b i : ℕ) → has (op a b) i ≡ f (has a i) (has b i)
-  unfolding has
-  by_member a b i = ap (λ (n : ℕ). eqb n 1) (by_digit a b i) ∙ row (has a i) (has b i)
+  by_member a b i = has_by (op a b) i _ (by_digit a b i ∙ ap₂ on (digit_has a i) (digit_has b i)) ∙ row (has a i) (has b i)
 
 -- what is in both sets
 pub has_and : (a b i : ℕ) → has (bit_and a b) i ≡ (has a i && has b i)
-has_and = by_member bit_and ◌&&◌ and_shr and_mod refl refl refl refl
+has_and = by_member bit_and min ◌&&◌ bit_at_and refl refl refl refl
 
 -- what is in either set
 pub has_or : (a b i : ℕ) → has (bit_or a b) i ≡ (has a i || has b i)
-has_or = by_member bit_or ◌||◌ or_shr or_mod refl refl refl refl
+has_or = by_member bit_or max ◌||◌ bit_at_or refl refl refl refl
 
 -- what is in one set and not in the other
 pub has_xor : (a b i : ℕ) → has (bit_xor a b) i ≡ xor (has a i) (has b i)
 unfolding xor
-has_xor = by_member bit_xor xor xor_shr xor_mod refl refl refl refl
+has_xor = by_member bit_xor (λ x y. (x + y) % 2) xor bit_at_xor refl refl refl refl
 
 -- ---- the empty set, a number by itself, and the full set
 
 -- nothing is in the empty set
 pub has_empty : (i : ℕ) → has 0 i ≡ false
-unfolding has
-has_empty i = rw zero-div
+has_empty i = has_by 0 i 0 (bit_at-zero i)
 
 -- nothing at or past the width is in a set
 pub has_past : (w s i : ℕ) → s < 2 ^ w → w ≤ i → has s i ≡ false
-unfolding has
-has_past w s i b l = rw (div-eq_of_lt (lt_of_lt_of_le b (pow_mono l)))
+has_past w s i b l = has_by s i 0 (bit_at_above s w i b l)
 
 -- the set of i alone has i
 pub has_one_same : (i : ℕ) → has (2 ^ i) i ≡ true
-unfolding has
-has_one_same i = rw (div_self (pow_pos i))
+has_one_same i = has_by (2 ^ i) i 1 (bit_at-pow_same i)
 
 -- narrowed to i, a set has i where it had it
 pub has_only_same : (s i : ℕ) → has (only s i) i ≡ has s i
 unfolding only
 has_only_same s i = simp (has_and, has_one_same, and-true)
 
--- two numbers, each by itself, have no bit in common
-apart : (i j : ℕ) → i < j → bit_and (2 ^ j) (2 ^ i) ≡ 0
-apart i j h = rw one-mul at (and_shifted 1 j (2 ^ i) (pow-lt h))
-
 -- the set of i alone has nothing else
 pub has_one_other : (i j : ℕ) → (j ≡ i → ⊥) → has (2 ^ i) j ≡ false
-unfolding only
-has_one_other i j ne =
-    sym (has_only_same (2 ^ i) j)
-    ∙ ne_cases j i (has (only (2 ^ i) j) j ≡ false) ne
-    (λ h. rw (apart j i h) (has_empty j))
-    (λ h. rw (and_comm (2 ^ i) (2 ^ j), apart i j h) (has_empty j))
+has_one_other i j ne = has_by (2 ^ i) j 0 (bit_at-pow_other i j ne)
 
 -- narrowed to i, a set has nothing else
 pub has_only_other : (s i j : ℕ) → (j ≡ i → ⊥) → has (only s i) j ≡ false
@@ -108,16 +98,13 @@ has_only_other s i j ne = simp (has_and, has_one_other i j ne, and-false)
 
 -- the full set has every number below its end
 pub has_full : (k i : ℕ) → i < k → has (full k) i ≡ true
-unfolding only full
-has_full k i h =
-    sym (has_only_same (full k) i)
-    ∙ ap (λ (s : ℕ). has s i) (and_comm (full k) (2 ^ i) ∙ and_mask (2 ^ i) k ∙ mod-eq_of_lt (pow-lt h))
-    ∙ has_one_same i
+unfolding full
+has_full k i h = has_by (full k) i 1 (bit_at_ones k i h)
 
 -- the full set has no number from its end on
 pub not_has_full : (k i : ℕ) → k ≤ i → has (full k) i ≡ false
 unfolding full
-not_has_full k i l = has_past k (full k) i (ones_lt k) l
+not_has_full k i l = has_by (full k) i 0 (bit_at_ones_above k i l)
 
 -- ---- putting in and taking out
 
@@ -177,26 +164,9 @@ remove_below w s i b =
 
 -- ---- the members make the set
 
--- half of the number is the set with each member one less
-has_half : (s i : ℕ) → has (s / 2) i ≡ has s (suc i)
-unfolding has
-has_half s i = rw (shr-shr s 1 i, one-add)
-
--- the lowest digit says whether 0 is in the set
-has_zero : (s : ℕ) → s % 2 ≡ digit (has s 0)
-has_zero s = rw div-one at (digit_has s 0)
-
-halves : (a b : ℕ) → a / 2 ≡ b / 2 → a % 2 ≡ b % 2 → a ≡ b
-halves a b h l = omega arith
-
 -- two sets with the same members are one
 pub same_set : (w a b : ℕ) → a < 2 ^ w → b < 2 ^ w → ((i : ℕ) → i < w → has a i ≡ has b i) → a ≡ b
-same_set zero a b ha hb e = lt-one ha ∙ sym (lt-one hb)
-same_set (suc w) a b ha hb e =
-    halves a b
-    (same_set w (a / 2) (b / 2) (shr_lt w 1 (rw add-one ha)) (shr_lt w 1 (rw add-one hb))
-    (λ i h. has_half a i ∙ e (suc i) (omega arith) ∙ sym (has_half b i)))
-    (has_zero a ∙ ap digit (e 0 (omega arith)) ∙ sym (has_zero b))
+same_set w a b ha hb e = same_from_bits_below w a b ha hb (λ i h. digit_has a i ∙ ap digit (e i h) ∙ sym (digit_has b i))
 
 -- ---- from the machine's shifts
 
@@ -253,13 +223,18 @@ lowest_within zero v s l = omega arith
 lowest_within (suc w) zero s l = absurd (omega arith)
 lowest_within (suc w) (suc v) s l = go (s % 2) (lowest_within w v (s / 2) (omega arith))
   where
-    go : (r : ℕ) → min w (count_trailing_zeros v (s / 2)) ≡ count_trailing_zeros w (s / 2) → min (suc w) (under r (count_trailing_zeros v (s / 2))) ≡ under r (count_trailing_zeros w (s / 2))
+    go : (r : ℕ) → min w (count_trailing_zeros v (s / 2)) ≡ count_trailing_zeros w (s / 2)
+        → min (suc w) (under r (count_trailing_zeros v (s / 2))) ≡ under r (count_trailing_zeros w (s / 2))
     go zero e = omega arith
     go (suc r) e = omega arith
 
 first_bit : (s : ℕ) → has s 0 ≡ eqb (s % 2) 1
+first_bit s = has_by s 0 (s % 2) (bit_at_lowest s)
+
+-- half of the number is the set with each member one less
+has_half : (s i : ℕ) → has (s / 2) i ≡ has s (suc i)
 unfolding has
-first_bit s = rw (div-one s)
+has_half s i = sym (has_by s (suc i) (bit_at (s / 2) i) (bit_at-suc s i))
 
 -- nothing below the smallest number is in the set
 pub none_below_lowest : (w s i : ℕ) → i < lowest w s → has s i ≡ false
@@ -295,12 +270,7 @@ lowest_below w s b h =
 
 -- a number alone, and a set that has it
 and_one : (s i : ℕ) → has s i ≡ true → bit_and s (2 ^ i) ≡ 2 ^ i
-and_one s i h =
-    same_set (suc i) (bit_and s (2 ^ i)) (2 ^ i) (lt_of_le_of_lt (and_le_r s (2 ^ i)) (pow-lt (omega arith))) (pow-lt (omega arith))
-    (λ j l. has_and s (2 ^ i) j ∙ (elim (ℕ_discrete j i) [
-      | yes e ↦ rw e (rw (h, has_one_same i))
-      | no e ↦ rw (has_one_other i j e, and-false)
-    ]))
+and_one s i h = and_pow s i ∙ ap (λ d. d * 2 ^ i) (digit_has s i ∙ ap digit h) ∙ one-mul (2 ^ i)
 
 -- a set is smaller without a number that it has
 pub remove_less : (w s i : ℕ) → i < w → has s i ≡ true → remove w s i < s

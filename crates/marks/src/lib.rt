@@ -27,6 +27,7 @@ pub trait Word: Copy {
     // A word is known by its number.
     ghost one_to_one: { (a b : Self) → number a ≡ number b → a ≡ b };
 
+    // A bit below the width can be shifted to within 64 bits.
     ghost within: { WIDTH ≤ 64 };
 }
 
