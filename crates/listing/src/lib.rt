@@ -17,7 +17,7 @@ pub struct Listing<'a> {
 }
 
 // A reader on a body, at its first record. A `for` over it, as over any reader, gives the records that it has left.
-#[tactic(auto, using(crate::proofs::Theorems::in_order))]
+#[tactic(auto, using(crate::proofs::Left::in_order))]
 pub fn start<'a>(body: &'a [u8]) -> Listing<'a>
     ensures reader { (result.body ≡ body.entry) × (result.at ≡ 0) }
     ensures in_order { YieldsInOrder Gives left }
@@ -64,7 +64,7 @@ impl Iterator for Listing<'_> {
 
     ghost remaining = { item_count left };
 
-    #[tactic(auto, using(crate::proofs::Theorems::first_left, crate::proofs::Theorems::nearer))]
+    #[tactic(auto, using(crate::proofs::Left::first_left, crate::proofs::Left::nearer))]
     fn next(&mut self) -> Option<Record> {
         let (record, after) = records::next(self.body, self.at);
         self.at = after;
