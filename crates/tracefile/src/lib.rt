@@ -82,7 +82,7 @@ pub fn check_asked(file: &[u8], trace: u32) -> Result<(), Refusal>
 {
     check_file(file)?;
     let bodies = u32::from(Head::of(file).bodies);
-    if (trace < 1) | (bodies < trace) {
+    if !(1..=bodies).contains(&trace) {
         return Err(Refusal::Trace);
     }
     Ok(())

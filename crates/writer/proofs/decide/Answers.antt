@@ -4,21 +4,18 @@ use mathlib.Core.Path.{sym, ◌∙◌}
 use native.Mathlib.Omega.{arith}
 use Rattle.std.proofs.lemmas.Grind.{common_steps}
 use Rattle.writer.specs.Written.{write, rows_then_room, fitted}
-use Rattle.tracefile.proofs.Good.{inside}
 use Rattle.writer.proofs.Decided.{counted, decided_ok}
 use Rattle.writer.proofs.decide.Goals as goal
 
 pub overflow_cast-bytes : goal.overflow_cast-bytes
 overflow_cast-bytes c =
-    let k = (inside 1 16 _ c.if-k.false).1 in
-    let b = (counted _ _ k (sym c.miscounted.ensures ∙ c.if-miscounted.false)).1 in
-    omega (arith, k, b)
+    let b = (counted _ _ c.if-k-gt16.false (sym c.miscounted.ensures ∙ c.if-miscounted.false)).1 in
+    omega (arith, b)
 
 pub overflow_cast-k : goal.overflow_cast-k
 overflow_cast-k c =
-    let k = (inside 1 16 _ c.if-k.false).1 in
-    let b = (counted _ _ k (sym c.miscounted.ensures ∙ c.if-miscounted.false)).1 in
-    omega (arith, k, b)
+    let b = (counted _ _ c.if-k-gt16.false (sym c.miscounted.ensures ∙ c.if-miscounted.false)).1 in
+    omega (arith, b)
 
 pub returns-clause-told : goal.returns-clause-told
 unfolding write rows_then_room fitted
