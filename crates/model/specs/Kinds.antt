@@ -1,5 +1,6 @@
 -- The byte that stands for each kind of event, and the kind that a byte stands for.
-use Rattle.std.specs.Prelude.{ℕ, cond, eqb, Result, Ok, Err}
+use Rattle.std.specs.Prelude.{ℕ, List, ◌++◌, cond, eqb, Result, Ok, Err, codes}
+use Rattle.std.specs.Fmt.{decimal}
 use Rattle.model.specs.declared.Kind.{Kind}
 use Rattle.model.specs.declared.Kind.TheVariants.{Read, Write, Stabilize, Failed, Up, Down}
 use Rattle.model.specs.declared.UnknownKind.{UnknownKind}
@@ -22,3 +23,7 @@ kind_of b =
     (cond (eqb b 5) (Ok Up)
     (cond (eqb b 6) (Ok Down)
     (Err (record { 0 = b })))))))
+
+-- what is printed of a byte that no kind has
+abbrev pub unknown_text : UnknownKind → List ℕ
+unknown_text e = codes "no kind of event has byte " ++ decimal e.0

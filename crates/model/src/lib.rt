@@ -2,8 +2,8 @@
 // explanation is, and the ordered walk are definitions, in specs/; what is true of them stands in proofs/Theorems.antt.
 #![tactic(auto)]
 
-ghost use Rattle.std.specs.Prelude.{◌≡◌};
-ghost use Rattle.model.specs.Kinds.{kind_of, code_of};
+ghost use Rattle.std.specs.Prelude.{◌≡◌, Some};
+ghost use Rattle.model.specs.Kinds.{kind_of, code_of, unknown_text};
 
 use std::error::Error;
 use std::fmt;
@@ -51,6 +51,8 @@ pub enum Kind {
 pub struct UnknownKind(pub u8);
 
 impl fmt::Display for UnknownKind {
+    ghost output = { λ e. Some (unknown_text e) };
+
     fn fmt<W: fmt::Write>(&self, f: &mut fmt::Formatter<W>) -> fmt::Result {
         write!(f, "no kind of event has byte {}", self.0)
     }
