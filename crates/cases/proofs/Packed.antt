@@ -2,15 +2,17 @@
 -- Assumes nothing.
 use mathlib.Core.Bool.{Bool, true, false, ◌&&◌}
 use mathlib.Core.List.{List, [], ◌∷◌}
-use mathlib.Core.Path.{◌≡◌, refl, sym, ap, ap₂, ◌∙◌}
-use Prim.Native.Nat.{ℕ, zero, suc, ◌+◌, ◌-◌, ◌*◌, ◌≤◌, ◌<◌}
+use mathlib.Core.Path.{◌≡◌, refl, sym, ap, ◌∙◌}
+use Prim.Native.Nat.{ℕ, suc, ◌+◌, ◌-◌, ◌*◌, ◌≤◌, ◌<◌}
 use native.Mathlib.Nat.{add_assoc, add-zero}
+use native.Mathlib.Decide.{dec_le}
 use native.Mathlib.Omega.{arith}
-use native.Mathlib.Numerals.{add-one}
-use lib.Dec.{eqb}
-use lib.ListN.{length, take, drop, get_or, drop_of_length-le}
-use lib.Seq.{drop-cons, drop-drop, get_or-drop}
-use borrow.Author.Tests.{le-leb, lt-leb, eq-eqb, ne_eqb}
+use lib.Dec.{eqb, leb-suc-suc}
+use lib.ListN.{length, take, drop, get_or, length-drop}
+use lib.Seq.{get_or-drop}
+use borrow.Author.Tests.{le-leb, lt-leb}
+use Rattle.std.specs.Cmp.Lexicographic.{pointwise}
+use Rattle.std.specs.List.{list_all}
 use Rattle.records.specs.Bytes.{byte, number}
 use Rattle.cases.specs.Packed.{number_at, part_at, held_at, pattern, follows, stands_in}
 
@@ -19,16 +21,36 @@ pub number_4 : (f : List ℕ) (at : ℕ) → number f at 4 ≡ byte f at + 256 *
 unfolding number
 number_4 f at = simp (add_assoc, add-zero)
 
--- a part that is not all there is empty
-pub no_part : (packed : List ℕ) (start size : ℕ) → length packed < start + size → [] ≡ part_at packed start size
-unfolding part_at
-no_part packed start size h = rw (lt-leb (start + size) (length packed) h)
+-- what stands from a place on holds the number at it, or too few bytes
+pub number_here : (packed rest : List ℕ) (at n : ℕ) → rest ≡ drop at packed → 4 ≤ length rest
+    → n ≡ get_or rest 0 0 + get_or rest 1 0 * 256 + get_or rest 2 0 * 65536 + get_or rest 3 0 * 16777216 → n ≡ number_at packed at
+unfolding number_at
+number_here packed rest at n e l h =
+    let z : length rest ≡ length packed - at = ap length e ∙ length-drop at packed in
+    let b : (i : ℕ) → get_or rest i 0 ≡ byte packed (at + i) = λ i. ap (λ (r : List ℕ). get_or r i 0) e ∙ get_or-drop at packed i 0 in
+    rw (le-leb (at + 4) (length packed) (omega arith), number_4) (h ∙ omega (arith, b 0, b 1, b 2, b 3, ap (byte packed) (add-zero at)))
 
-pub whole_part : (packed : List ℕ) (start size : ℕ) → start + size ≤ length packed → take (start + size - start) (drop start packed) ≡ part_at packed start size
+pub no_number : (packed rest : List ℕ) (at : ℕ) → rest ≡ drop at packed → length rest < 4 → 0 ≡ number_at packed at
+unfolding number_at
+no_number packed rest at e l =
+    let z : length rest ≡ length packed - at = ap length e ∙ length-drop at packed in
+    rw (lt-leb (at + 4) (length packed) (omega arith)) refl
+
+-- the part at its front, or none where too little is left
+pub part_here : (packed rest : List ℕ) (start size : ℕ) → rest ≡ drop start packed → size ≤ length rest → take size rest ≡ part_at packed start size
 unfolding part_at
-whole_part packed start size h =
-    let e : start + size - start ≡ size = omega arith in
-    ap (λ (n : ℕ). take n (drop start packed)) e ∙ rw (le-leb (start + size) (length packed) h)
+part_here packed rest start size e l =
+    let z : length rest ≡ length packed - start = ap length e ∙ length-drop start packed in
+    elim (dec_le (start + size) (length packed)) [
+      | yes h ↦ rw (le-leb (start + size) (length packed) h) (ap (take size) e)
+      | no h ↦ rw (lt-leb (start + size) (length packed) (omega arith)) (let none : size ≡ 0 = omega arith in ap (λ (n : ℕ). take n rest) none)
+    ]
+
+pub no_part : (packed rest : List ℕ) (start size : ℕ) → rest ≡ drop start packed → length rest < size → [] ≡ part_at packed start size
+unfolding part_at
+no_part packed rest start size e l =
+    let z : length rest ≡ length packed - start = ap length e ∙ length-drop start packed in
+    rw (lt-leb (start + size) (length packed) (omega arith)) refl
 
 -- where nothing is left of the packed bytes, no part is held
 pub none_held : (packed : List ℕ) (at : ℕ) → length packed ≤ at → [] ≡ held_at packed at
@@ -37,38 +59,29 @@ none_held packed at h = rw (lt-leb (at + 4) (length packed) (omega arith), lt-le
 
 -- ---- the front, and then the pattern
 
-pub too_short : (front bytes : List ℕ) → length bytes < length front → false ≡ stands_in front bytes
-unfolding stands_in
-too_short front bytes h = rw (lt-leb (length front) (length bytes) h)
-
--- one byte more
-one_more : (front bytes : List ℕ) (i : ℕ) → i < length bytes
-    → follows (drop i front) (drop i bytes) ≡ (eqb (get_or bytes i 0) (get_or front i pattern) && follows (drop (i + 1) front) (drop (i + 1) bytes))
+-- where the front ends, all that is left has the pattern
+after_front : (bytes : List ℕ) → follows [] bytes ≡ list_all (λ (byte : ℕ). eqb byte pattern) bytes
 unfolding follows
-one_more front bytes i h =
-    ap (follows (drop i front)) (drop-cons bytes i 0 h)
-    ∙ ap₂ (λ (x : ℕ) (l : List ℕ). eqb (get_or bytes i 0) x && follows l (drop (suc i) bytes)) (get_or-drop i front 0 pattern ∙ ap (λ (n : ℕ). get_or front n pattern) (add-zero i)) (drop-drop 1 i front)
-    ∙ ap (λ (n : ℕ). eqb (get_or bytes i 0) (get_or front i pattern) && follows (drop (i + 1) front) (drop n bytes)) (sym (add-one i))
+after_front [] = refl
+after_front (byte ∷ rest) = ap (λ (t : Bool). eqb byte pattern && t) (after_front rest)
 
-pub differs : (front bytes : List ℕ) (i right : ℕ) → length front ≤ length bytes → i < length bytes → follows front bytes ≡ follows (drop i front) (drop i bytes)
-    → right ≡ get_or front i pattern → (get_or bytes i 0 ≡ right → ⊥) → false ≡ stands_in front bytes
-unfolding stands_in
-differs front bytes i right l h e r d =
-    sym (ap (λ (t : Bool). t && follows front bytes) (le-leb (length front) (length bytes) l)
-    ∙ e ∙ one_more front bytes i h ∙ ap (λ (t : Bool). t && follows (drop (i + 1) front) (drop (i + 1) bytes)) (ne_eqb (get_or bytes i 0) (get_or front i pattern) (λ q. d (q ∙ sym r))))
+-- a test that comes first on both sides
+first_test : (e l f p r : Bool) → (l && f) ≡ (p && r) → (l && (e && f)) ≡ ((e && p) && r)
+first_test true l f p r h = h
+first_test false true f p r h = refl
+first_test false false f p r h = refl
 
-pub same : (front bytes : List ℕ) (i right : ℕ) → i < length bytes → follows front bytes ≡ follows (drop i front) (drop i bytes)
-    → right ≡ get_or front i pattern → get_or bytes i 0 ≡ right → follows front bytes ≡ follows (drop (i + 1) front) (drop (i + 1) bytes)
-same front bytes i right h e r q =
-    e ∙ one_more front bytes i h ∙ ap (λ (t : Bool). t && follows (drop (i + 1) front) (drop (i + 1) bytes)) (eq-eqb (get_or bytes i 0) (get_or front i pattern) (q ∙ r))
-
-pub all_stand : (front bytes : List ℕ) (i : ℕ) → length front ≤ length bytes → length bytes ≤ i → follows front bytes ≡ follows (drop i front) (drop i bytes) → true ≡ stands_in front bytes
+-- bytes stand as they should where they begin with the front, and the rest has the pattern
+stands_by_parts : (front bytes : List ℕ)
+    → stands_in front bytes ≡ (pointwise eqb (take (length front) bytes) front && list_all (λ (byte : ℕ). eqb byte pattern) (drop (length front) bytes))
 unfolding stands_in follows
-all_stand front bytes i l h e =
-    sym (ap (λ (t : Bool). t && follows front bytes) (le-leb (length front) (length bytes) l) ∙ e ∙ ap (follows (drop i front)) (drop_of_length-le bytes {i = i} h))
+stands_by_parts [] bytes = rw (le-leb 0 (length bytes) (omega arith)) (after_front bytes)
+stands_by_parts (x ∷ front) [] = rw (lt-leb (suc (length front)) 0 (omega arith)) refl
+stands_by_parts (x ∷ front) (y ∷ bytes) = rw leb-suc-suc (first_test (eqb y x) _ _ _ _ (stands_by_parts front bytes))
 
--- a byte that is there is the same, whatever stands for one that is not
-pub there_anyway : (l : List ℕ) (i a b : ℕ) → i < length l → get_or l i a ≡ get_or l i b
-there_anyway [] i a b h = absurd (omega arith)
-there_anyway (x ∷ l) zero a b h = refl
-there_anyway (x ∷ l) (suc i) a b h = there_anyway l i a b (omega arith)
+pub begins : (front bytes : List ℕ) (right : Bool) → pointwise eqb (take (length front) bytes) front ≡ true
+    → right ≡ list_all (λ (byte : ℕ). eqb byte pattern) (drop (length front) bytes) → right ≡ stands_in front bytes
+begins front bytes right b r = r ∙ sym (stands_by_parts front bytes ∙ ap (λ (t : Bool). t && list_all (λ (byte : ℕ). eqb byte pattern) (drop (length front) bytes)) b)
+
+pub begins_otherwise : (front bytes : List ℕ) → pointwise eqb (take (length front) bytes) front ≡ false → false ≡ stands_in front bytes
+begins_otherwise front bytes b = sym (stands_by_parts front bytes ∙ ap (λ (t : Bool). t && list_all (λ (byte : ℕ). eqb byte pattern) (drop (length front) bytes)) b)

@@ -1,1 +1,3 @@
 pub mod Packed
+pub mod Seen
+pub mod Tallied

@@ -1,5 +1,5 @@
 -- Cases packed into bytes: numbers and parts, and what bytes lent for writing hold afterwards.
-use Rattle.std.specs.Prelude.{ℕ, ◌+◌, Bool, true, cond, ◌&&◌, List, [], ◌∷◌, leb, eqb, length, take, drop, get_or}
+use Rattle.std.specs.Prelude.{ℕ, zero, suc, ◌+◌, Bool, true, cond, ◌&&◌, List, [], ◌∷◌, leb, eqb, length, take, drop, get_or}
 use Rattle.records.specs.Bytes.{number}
 
 -- the number in the four bytes at a place, and 0 where there are fewer
@@ -28,3 +28,16 @@ follows front (byte ∷ rest) = eqb byte (get_or front 0 pattern) && follows (dr
 unfoldable pub stands_in : List ℕ → List ℕ → Bool
 unfolding follows
 stands_in front bytes = leb (length front) (length bytes) && follows front bytes
+
+-- the cases that are packed one after the other, at most so many: each is as long as its first number says, and they end where
+-- that is 0 or more than is left
+unfoldable pub cases_within : ℕ → List ℕ → List (List ℕ)
+cases_within zero packed = []
+cases_within (suc most) packed =
+    let size = number_at packed 0 in
+    cond (leb 1 size && leb size (length packed)) (take size packed ∷ cases_within most (drop size packed)) []
+
+-- all of them: each has a byte at least, so there are no more than bytes
+unfoldable pub cases_in : List ℕ → List (List ℕ)
+unfolding cases_within
+cases_in packed = cases_within (length packed) packed

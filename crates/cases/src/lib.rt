@@ -3,90 +3,119 @@
 // starts in the case and its length. What is not there is 0, or empty. The file that they stand in is read here too.
 #![tactic(auto)]
 
-ghost use Rattle.std.specs.Prelude.{◌≡◌, ◌<◌, ◌≤◌, IfOk, get_or, length, take};
+ghost use Rattle.std.specs.Prelude.{◌≡◌, ℕ, ◌<◌, ◌≤◌, ◌++◌, EachIndex, IfOk, List, Some, codes, drop, length, slice_index, take};
+ghost use Rattle.std.specs.Fmt.{decimal};
 ghost use Rattle.std.specs.Io.KnownBytes.{Consumes, IsAtEnd};
-ghost use Rattle.cases.specs.Packed.{number_at, part_at, held_at, pattern, stands_in};
+ghost use Rattle.std.specs.Iterator.{YieldsFirstBy, item_count};
+ghost use Rattle.cases.specs.Seen.{packed_of, cases_left};
+ghost use Rattle.cases.specs.Tallied.{Tallies};
+ghost use Rattle.cases.specs.Packed.{cases_in, number_at, part_at, held_at, pattern, stands_in};
 
-use std::io;
 use std::io::Read;
+use std::{fmt, io};
 
 // What every byte that is lent for writing is beforehand.
 pub const PATTERN: u8 = 0xa5;
 
-// A byte as a wide number.
-fn wide(byte: u8) -> u32
-    ensures { (result ≡ byte) × (result < 256) }
-{
-    byte as u32
+// How many bytes of packed cases are read: more than any file of them has.
+pub const ROOM: usize = 524288;
+
+// The bytes of a case.
+#[derive(Clone, Copy)]
+pub struct Case<'a> {
+    pub packed: &'a [u8],
 }
 
-// The number in the four bytes at a place.
-pub fn number(packed: &[u8], at: usize) -> u32
-    ensures { result ≡ number_at packed.now at }
-{
-    if packed.len() < 4 {
-        return 0;
+impl<'a> Case<'a> {
+    // What stands from a place on.
+    fn after(self, at: usize) -> &'a [u8]
+        ensures { result.now ≡ drop at self.entry.packed.now }
+    {
+        &self.packed[at.min(self.packed.len())..]
     }
-    if packed.len() - 4 < at {
-        return 0;
+
+    // The number in the four bytes at a place.
+    pub fn number(self, at: usize) -> u32
+        ensures { result ≡ number_at self.entry.packed.now at }
+    {
+        match self.after(at) {
+            [first, second, third, last, ..] => u32::from_le_bytes([
+                *first, *second, *third, *last,
+            ]),
+            _ => 0,
+        }
     }
-    let upper = wide(packed[at + 2]) + 256 * wide(packed[at + 3]);
-    wide(packed[at]) + 256 * (wide(packed[at + 1]) + 256 * upper)
+
+    // The part of so many bytes at a place.
+    pub fn part(self, start: usize, length: usize) -> &'a [u8]
+        ensures { result.now ≡ part_at self.entry.packed.now start length }
+    {
+        let rest = self.after(start);
+        if length <= rest.len() {
+            &rest[..length]
+        } else {
+            &[]
+        }
+    }
+
+    // The part whose start and length stand at a place of the head.
+    pub fn held(self, at: usize) -> &'a [u8]
+        ensures { result.now ≡ held_at self.entry.packed.now at }
+    {
+        if self.packed.len() <= at {
+            return &[];
+        }
+        let start = self.number(at) as usize;
+        let length = self.number(at + 4) as usize;
+        self.part(start, length)
+    }
 }
 
-// The part of so many bytes at a place.
-pub fn part(packed: &[u8], start: usize, length: usize) -> &[u8]
-    ensures { result.now ≡ part_at packed.now start length }
-{
-    if packed.len() < start {
-        return &packed[0..0];
-    }
-    if packed.len() - start < length {
-        return &packed[0..0];
-    }
-    let end = start + length;
-    &packed[start..end]
+// Cases that are packed one after the other. They end where the next would have no bytes, or more than are left.
+#[derive(Clone, Copy)]
+pub struct Cases<'a> {
+    pub rest: &'a [u8],
 }
 
-// The part whose start and length stand at a place of the head.
-pub fn held(packed: &[u8], at: usize) -> &[u8]
-    ensures { result.now ≡ held_at packed.now at }
-{
-    if packed.len() <= at {
-        return &packed[0..0];
-    }
-    let start = number(packed, at) as usize;
-    let length = number(packed, at + 4) as usize;
-    part(packed, start, length)
-}
+impl<'a> Iterator for Cases<'a> {
+    type Item = Case<'a>;
 
-// The byte that is right at a place, where these bytes stand at the front.
-fn right(front: &[u8], i: usize) -> u8
-    ensures { result ≡ get_or front.now i pattern }
-{
-    if i < front.len() { front[i] } else { PATTERN }
+    ghost next_gives = { YieldsFirstBy packed_of cases_left };
+
+    ghost remaining = { item_count cases_left };
+
+    fn next(&mut self) -> Option<Case<'a>> {
+        let length = Case { packed: self.rest }.number(0) as usize;
+        if length == 0 || self.rest.len() < length {
+            return None;
+        }
+        let (packed, rest) = self.rest.split_at(length);
+        self.rest = rest;
+        Some(Case { packed })
+    }
 }
 
 // Whether bytes start with those at the front, and have the pattern in every byte after them.
-#[tactic(auto, using(crate::proofs::Packed::too_short, crate::proofs::Packed::all_stand))]
 pub fn stands(front: &[u8], bytes: &[u8]) -> bool
     ensures { result ≡ stands_in front.now bytes.now }
 {
-    if bytes.len() < front.len() {
-        return false;
+    match bytes.strip_prefix(front) {
+        Some(rest) => rest.iter().all(|byte| *byte == PATTERN),
+        None => false,
     }
-    let mut i = 0;
-    while i < bytes.len() {
-        if bytes[i] != right(front, i) {
-            return false;
-        }
-        i += 1;
-    }
-    true
+}
+
+// Room that nothing was written into: the pattern in every byte.
+pub fn filled<const N: usize>() -> [u8; N]
+    ensures length { length result ≡ N }
+    ensures pattern { EachIndex result (λ k. slice_index result k ≡ pattern) }
+{
+    [PATTERN; N]
 }
 
 // Reads until the room is full or there is no more, and says how many bytes came: they stand at the front, in the order in
-// which the reader had them. A read that fails ends it.
+// which the reader had them. A read that fails ends it. It counts what has come by hand, since a read brings as much as it likes:
+// std's `read_to_end` fills a Vec, and its `read_exact` fails where less comes than there is room for.
 pub fn read_full<R: Read>(reader: &mut R, room: &mut [u8]) -> io::Result<usize>
     ensures same_length { length room.new ≡ length room.old }
     ensures within { IfOk result (λ n. n ≤ length room.new) }
@@ -102,4 +131,77 @@ pub fn read_full<R: Read>(reader: &mut R, room: &mut [u8]) -> io::Result<usize>
         done += came;
     }
     Ok(done)
+}
+
+// How many cases a test is about, and how many of them differ from what is expected.
+#[derive(Clone, Copy, Debug, PartialEq, Eq)]
+pub struct Tally {
+    pub cases: usize,
+    pub differ: usize,
+}
+
+impl fmt::Display for Tally {
+    ghost output = { λ tally. Some (decimal tally.cases ++ codes " cases, " ++ decimal tally.differ ++ codes " differ") };
+
+    fn fmt<W: fmt::Write>(&self, f: &mut fmt::Formatter<W>) -> fmt::Result {
+        write!(f, "{} cases, {} differ", self.cases, self.differ)
+    }
+}
+
+// Says the name of a case that differs.
+fn say_name(rt: &impl Print, group: &str, name: &[u8]) -> io::Result<()> {
+    print!(rt; "{group}: ")?;
+    rt.write_all(name)?;
+    println!(rt; " differs")
+}
+
+// Tries a test on packed cases, in their order, and says the name of each that differs. The test says whether a case agrees, and
+// nothing of a case that is none of its own. A call of it needs that it may be called.
+fn run_packed<R: Print, F: Fn(Case<'_>) -> Option<bool>>(
+    rt: &R,
+    group: &str,
+    name: usize,
+    packed: &[u8],
+    agrees: F,
+) -> io::Result<Tally>
+    requires { F.IsAlwaysCallable agrees }
+    ensures { IfOk result (λ tally. Tallies (F.post agrees) (cases_in packed.now) tally) }
+{
+    let mut tally = Tally {
+        cases: 0,
+        differ: 0,
+    };
+    for case in (Cases { rest: packed }) {
+        let answer = agrees(case);
+        let differs = answer == Some(false);
+        if differs {
+            say_name(rt, group, case.held(name))?;
+        }
+        tally.cases += usize::from(answer.is_some());
+        tally.differ += usize::from(differs);
+    }
+    Ok(tally)
+}
+
+// Reads packed cases, tries a test on them, and says the name of each that differs, and then in one line how many there are and
+// how many differ. The name of a case is the part that its head names at a place. The test is as above, and so is the only thing
+// that is asked of a caller: that it may be called.
+pub fn run<R: Print, S: Read, F: Fn(Case<'_>) -> Option<bool>>(
+    rt: &R,
+    source: &mut S,
+    group: &str,
+    name: usize,
+    agrees: F,
+) -> io::Result<Tally>
+    requires { F.IsAlwaysCallable agrees }
+    ensures { IfOk result (λ tally. (packed : List ℕ)
+        × Consumes (S.remaining source.old) (S.remaining source.new) packed
+        × (length packed < ROOM → IsAtEnd (S.remaining source.new))
+        × Tallies (F.post agrees) (cases_in packed) tally) }
+{
+    let mut room = filled::<ROOM>();
+    let length = read_full(source, &mut room)?;
+    let tally = run_packed(rt, group, name, &room[..length], agrees)?;
+    println!(rt; "{group}: {tally}")?;
+    Ok(tally)
 }

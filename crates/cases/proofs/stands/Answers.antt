@@ -1,11 +1,22 @@
--- `cases::stands` meets its contract: from each place on, what is left of the bytes decides.
+-- `cases::stands` meets its contract: what follows the front has the pattern, or the front is not there.
 -- Assumes nothing.
-use native.Mathlib.Omega.{arith}
-use Rattle.cases.proofs.Packed.{differs, same}
+use borrow.Author.Rules.{rules}
+use mathlib.Core.Path.{ap, ◌∙◌}
+use Prim.Native.Nat.{ℕ}
+use lib.Dec.{eqb}
+use Rattle.std.specs.List.{list_all}
+use Rattle.std.proofs.lemmas.Iterator.{YieldsList-from_slice}
+use Rattle.std.proofs.lemmas.Iterator.Search.{all_from_yields_List}
+use Rattle.cases.specs.Packed.{pattern}
+use Rattle.cases.proofs.Packed.{begins, begins_otherwise}
 use Rattle.cases.proofs.stands.Goals as goal
 
-pub returns-then-bytes-i : goal.returns-then-bytes-i
-returns-then-bytes-i c = differs _ _ _ _ (omega arith) c.loop-i-test.true c.loop-i.invariant c.right.ensures c.if-bytes-i.true
+pub returns-in-Some : goal.returns-in-Some
+returns-in-Some c =
+    let marked = λ (byte : ℕ). eqb byte pattern in
+    begins _ _ _ c.in-Some.ensures.cases.0
+    (all_from_yields_List marked _ _ _ c.all.ensures.ran (YieldsList-from_slice _ c.iter.ensures.rest) (λ x b q k. search rules)
+    ∙ ap (list_all marked) c.in-Some.ensures.cases.1)
 
-pub loop-i-preserved : goal.loop-i-preserved
-loop-i-preserved c = same _ _ _ _ c.loop-i-test.true c.loop-i.invariant c.right.ensures c.if-bytes-i.false
+pub returns-in-None : goal.returns-in-None
+returns-in-None c = begins_otherwise _ _ c.in-None.ensures.cases
