@@ -1,67 +1,75 @@
 // What is said of a case, and what stands in its room afterwards.
-ghost use Rattle.std.specs.Prelude.{◌≡◌, length};
-
 use crate::case;
-use tracefile::Refusal;
-use verdict::Verdict;
+use cases::Case;
+use tracefile::Numbered;
+use verdict::{Refusal, Verdict};
 
 // A status, 0 explained, 1 unexplained, 2 undecided, or 10 plus the number of a refusal; then points, events and place, 0
 // where there is none.
-#[derive(Clone, Copy)]
-struct Answer(u32, u32, u32, u32);
-
-fn told_refusal(refusal: Refusal) -> Answer {
-    let by = tracefile::number_and_place(refusal);
-    Answer(std::num::wrapping_add_u32(10, by.number), 0, 0, by.place)
+#[derive(Clone, Copy, Debug, PartialEq, Eq, Default)]
+struct Answer {
+    status: u32,
+    points: u32,
+    events: u32,
+    place: u32,
 }
 
-fn told(said: Verdict) -> Answer {
-    match said {
-        Verdict::Explained { points, events } => Answer(0, points, events, 0),
-        Verdict::Unexplained { points } => Answer(1, points, 0, 0),
-        Verdict::Undecided { points } => Answer(2, points, 0, 0),
-        Verdict::Refused(refusal) => told_refusal(refusal),
-        Verdict::NoRoom => Answer(19, 0, 0, 0),
-        Verdict::TooDeep => Answer(20, 0, 0, 0),
+impl From<Verdict> for Answer {
+    fn from(verdict: Verdict) -> Answer {
+        let (status, points, events) = match verdict {
+            Verdict::Explained { points, events } => (0, points, events),
+            Verdict::Unexplained { points } => (1, points, 0),
+            Verdict::Undecided { points } => (2, points, 0),
+        };
+        Answer {
+            status,
+            points,
+            events,
+            place: 0,
+        }
     }
 }
 
-// Whether the answer is the one that a case expects.
-fn says(packed: &[u8], said: Verdict) -> bool {
-    let answer = told(said);
-    (answer.0 == cases::number(packed, case::STATUS))
-        & (answer.1 == cases::number(packed, case::POINTS))
-        & (answer.2 == cases::number(packed, case::COUNT))
-        & (answer.3 == cases::number(packed, case::PLACE))
+impl From<Refusal> for Answer {
+    fn from(refusal: Refusal) -> Answer {
+        let Numbered { number, place } = Numbered::from(refusal);
+        Answer {
+            status: number.wrapping_add(10),
+            place,
+            ..Answer::default()
+        }
+    }
+}
+
+// The answer that a case expects.
+impl From<Case<'_>> for Answer {
+    fn from(case: Case<'_>) -> Answer {
+        Answer {
+            status: case.number(case::STATUS),
+            points: case.number(case::POINTS),
+            events: case.number(case::COUNT),
+            place: case.number(case::PLACE),
+        }
+    }
 }
 
 // Whether the call with this room does what a case expects.
-fn judges(packed: &[u8], room: &mut [u8]) -> bool {
-    let file = cases::held(packed, case::FILE);
-    let trace = cases::number(packed, case::TRACE);
-    let budget = cases::number(packed, case::BUDGET);
-    let said = verdict::explain(file, trace, budget, room);
-    says(packed, said) & cases::stands(cases::held(packed, case::EVENTS), room)
+fn judges(case: Case<'_>, room: &mut [u8]) -> bool {
+    let file = case.held(case::FILE);
+    let trace = case.number(case::TRACE);
+    let budget = case.number(case::BUDGET);
+    let answer = match verdict::explain(file, trace, budget, room) {
+        Ok(verdict) => Answer::from(verdict),
+        Err(refusal) => Answer::from(refusal),
+    };
+    answer == Answer::from(case) && cases::stands(case.held(case::EVENTS), room)
 }
 
-// The same with as much of this room as the case says.
-fn judges_within(packed: &[u8], room: &mut [u8]) -> bool {
-    let length = cases::number(packed, case::ROOM) as usize;
-    if room.len() < length {
-        return false;
+// Whether the call does what a case expects, with as much room as the case says, of which there is enough for every case.
+pub fn agrees(case: Case<'_>) -> bool {
+    let mut room = cases::filled::<8192>();
+    match room.get_mut(..case.number(case::ROOM) as usize) {
+        Some(room) => judges(case, room),
+        None => false,
     }
-    judges(packed, &mut room[0..length])
-}
-
-// Room for every case, filled with the pattern.
-fn filled() -> [u8; 8192]
-    ensures { 8192 ≡ length result }
-{
-    [cases::PATTERN; 8192]
-}
-
-// Whether the call does what a case expects.
-pub fn agrees(packed: &[u8]) -> bool {
-    let mut room = filled();
-    judges_within(packed, &mut room)
 }

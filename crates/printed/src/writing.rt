@@ -1,11 +1,34 @@
 // What is written for a case, compared with the text that is expected.
-ghost use Rattle.std.specs.Prelude.{◌≡◌, length};
-
 use crate::case;
+use cases::Case;
 use tracefile::Refusal;
 use verdict::Verdict;
 
-// The refusal of a file that has a number in the table.
+// What a case asks for: the text for a file, or one line.
+enum Asked {
+    Report,
+    Answer,
+    Events,
+    Refusal,
+    Record,
+    Heading,
+}
+
+// By the number that stands in the head of the case.
+impl From<u32> for Asked {
+    fn from(kind: u32) -> Asked {
+        match kind {
+            1 => Asked::Report,
+            2 => Asked::Answer,
+            3 => Asked::Events,
+            5 => Asked::Record,
+            6 => Asked::Heading,
+            _ => Asked::Refusal,
+        }
+    }
+}
+
+// The refusal of a file that has a number in the table. The numbers are those of the packed cases.
 fn refusal(number: u32, place: u32) -> Refusal {
     match number {
         1 => Refusal::Length,
@@ -20,71 +43,54 @@ fn refusal(number: u32, place: u32) -> Refusal {
 }
 
 // The refusal that a case is about.
-fn refusal_in(packed: &[u8]) -> Refusal {
-    let status = cases::number(packed, case::STATUS);
-    let place = cases::number(packed, case::PLACE);
-    if status < 10 {
-        return Refusal::Trace;
+fn refusal_in(case: Case<'_>) -> Refusal {
+    match case.number(case::STATUS).checked_sub(10) {
+        Some(number) => refusal(number, case.number(case::PLACE)),
+        None => Refusal::Trace,
     }
-    refusal(status - 10, place)
 }
 
-// The answer that a case is about.
-fn verdict_in(packed: &[u8]) -> Verdict {
-    let points = cases::number(packed, case::POINTS);
-    match cases::number(packed, case::STATUS) {
-        0 => Verdict::Explained {
+// What a case says of a trace, by the status in its head.
+fn said_in(case: Case<'_>) -> Result<Verdict, verdict::Refusal> {
+    let points = case.number(case::POINTS);
+    match case.number(case::STATUS) {
+        0 => Ok(Verdict::Explained {
             points,
-            events: cases::number(packed, case::EVENTS),
-        },
-        1 => Verdict::Unexplained { points },
-        2 => Verdict::Undecided { points },
-        19 => Verdict::NoRoom,
-        20 => Verdict::TooDeep,
-        _ => Verdict::Refused(refusal_in(packed)),
+            events: case.number(case::EVENTS),
+        }),
+        1 => Ok(Verdict::Unexplained { points }),
+        2 => Ok(Verdict::Undecided { points }),
+        19 => Err(verdict::Refusal::NoRoom),
+        20 => Err(verdict::Refusal::TooDeep),
+        _ => Err(verdict::Refusal::from(refusal_in(case))),
     }
 }
 
 // Writes what a case asks for, and gives the number of bytes written.
-fn write(packed: &[u8], out: &mut [u8]) -> usize {
-    match cases::number(packed, case::KIND) {
-        1 => report::report(cases::held(packed, case::GIVEN), out),
-        2 => lines::answer_line(cases::number(packed, case::TRACE), verdict_in(packed), out),
-        3 => lines::events_line(cases::held(packed, case::GIVEN), out),
-        5 => lines::record_line(
-            records::read_record(cases::held(packed, case::GIVEN), 0),
-            out,
-        ),
-        6 => lines::trace_line(cases::number(packed, case::TRACE), out),
-        _ => lines::refusal_line(refusal_in(packed), out),
+fn write(case: Case<'_>, out: &mut [u8]) -> usize {
+    let given = case.held(case::GIVEN);
+    let trace = case.number(case::TRACE);
+    match Asked::from(case.number(case::KIND)) {
+        Asked::Report => report::report(given, out),
+        Asked::Answer => lines::answer_line(trace, said_in(case), out),
+        Asked::Events => lines::events_line(given, out),
+        Asked::Refusal => lines::refusal_line(refusal_in(case), out),
+        Asked::Record => lines::record_line(records::read_record(given, 0), out),
+        Asked::Heading => lines::trace_line(trace, out),
     }
 }
 
 // Whether what is written is the text that a case expects, and its length is what is told.
-fn writes(packed: &[u8], out: &mut [u8]) -> bool {
-    let text = cases::held(packed, case::TEXT);
-    let written = write(packed, out);
-    (written == text.len()) & cases::stands(text, out)
+fn writes(case: Case<'_>, out: &mut [u8]) -> bool {
+    let text = case.held(case::TEXT);
+    write(case, out) == text.len() && cases::stands(text, out)
 }
 
-// The same with as much room as the case says.
-fn writes_within(packed: &[u8], out: &mut [u8]) -> bool {
-    let length = cases::number(packed, case::ROOM) as usize;
-    if out.len() < length {
-        return false;
+// Whether what is written is what a case expects, with as much room as the case says, of which there is enough for every case.
+pub fn agrees(case: Case<'_>) -> bool {
+    let mut room = cases::filled::<131072>();
+    match room.get_mut(..case.number(case::ROOM) as usize) {
+        Some(out) => writes(case, out),
+        None => false,
     }
-    writes(packed, &mut out[0..length])
-}
-
-// Room for every case, filled with the pattern.
-fn filled() -> [u8; 131072]
-    ensures { 131072 ≡ length result }
-{
-    [cases::PATTERN; 131072]
-}
-
-// Whether what is written is what a case expects.
-pub fn agrees(packed: &[u8]) -> bool {
-    let mut out = filled();
-    writes_within(packed, &mut out)
 }

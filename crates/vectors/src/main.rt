@@ -5,84 +5,31 @@ mod case;
 mod reading;
 mod writing;
 
-ghost use Rattle.std.specs.Prelude.{◌≡◌, length};
-
+use cases::Case;
 use std::fs::File;
+use std::io;
 
-// The process's output.
-const STDOUT: i32 = 1;
-
-// How many cases of a kind there are, and how many of them differ.
-#[derive(Clone, Copy)]
-struct Tally {
-    cases: u64,
-    differ: u64,
-}
-
-// Whether the reader or the writer does what a case expects.
-fn agrees(packed: &[u8]) -> bool {
-    if cases::number(packed, case::KIND) == case::READER {
-        reading::agrees(packed)
-    } else {
-        writing::agrees(packed)
-    }
-}
-
-// Says the name of a case that differs.
-fn say_name(label: &[u8], packed: &[u8]) {
-    io::write_all(STDOUT, label);
-    io::write_all(STDOUT, cases::held(packed, case::NAME));
-    io::write_all(STDOUT, b" differs\n");
-}
-
-// Runs the cases of a kind in the order of the file, and says the name of each that differs.
-fn run(all: &[u8], kind: u32, label: &[u8]) -> Tally {
-    let mut cases = 0u64;
-    let mut differ = 0u64;
-    let mut at = 0;
-    while at < all.len() {
-        let length = cases::number(all, at) as usize;
-        if length == 0 {
-            break;
-        }
-        if all.len() - at < length {
-            break;
-        }
-        let packed = cases::part(all, at, length);
-        if cases::number(packed, case::KIND) == kind {
-            cases += 1;
-            if !agrees(packed) {
-                say_name(label, packed);
-                differ += 1;
-            }
-        }
-        at += length;
-    }
-    Tally { cases, differ }
-}
-
-// Runs the cases of a kind, and says in one line how many there are and how many differ.
-fn run_group(all: &[u8], kind: u32, label: &[u8]) {
-    let tally = run(all, kind, label);
-    io::write_all(STDOUT, label);
-    io::print_decimal(STDOUT, tally.cases);
-    io::write_all(STDOUT, b" cases, ");
-    io::print_decimal(STDOUT, tally.differ);
-    io::write_all(STDOUT, b" differ\n");
-}
-
-// Room for the whole file of cases, and some to spare.
-fn empty() -> [u8; 524288]
-    ensures { 524288 ≡ length result }
+// Runs the cases of a kind, which stand in one file with those of the other. A call of the test needs that it may be called.
+fn run_kind<F: Fn(Case<'_>) -> bool>(
+    rt: &HostRuntime,
+    group: &str,
+    kind: u32,
+    agrees: F,
+) -> io::Result<()>
+    requires { F.IsAlwaysCallable agrees }
 {
-    [0; 524288]
+    let mut source = File::open(rt, "cases")?;
+    cases::run(rt, &mut source, group, case::NAME, |case| {
+        if case.number(case::KIND) == kind {
+            Some(agrees(case))
+        } else {
+            None
+        }
+    })?;
+    Ok(())
 }
 
-fn main(rt: HostRuntime) -> std::io::Result<()> {
-    let mut opened = File::open(&rt, "cases")?;
-    let mut room = empty();
-    let length = cases::read_full(&mut opened, &mut room)?;
-    run_group(&room[..length], case::READER, b"reader: ");
-    run_group(&room[..length], case::WRITER, b"writer: ");
-    Ok(())
+fn main(rt: HostRuntime) -> io::Result<()> {
+    run_kind(&rt, "reader", case::READER, reading::agrees)?;
+    run_kind(&rt, "writer", case::WRITER, writing::agrees)
 }

@@ -1,89 +1,87 @@
 // The writer's cases: what it answers, and what stands in its buffer afterwards.
-ghost use Rattle.std.specs.Prelude.{◌≡◌, length};
-
 use crate::case;
-use writer::{Unwritten, Written};
+use cases::Case;
+use writer::Unwritten;
 
 // A refusal by its number in the specification, and its place, 0 and 0 where there is none; then the length of the file, 0
 // where there is none.
-#[derive(Clone, Copy)]
-struct Answer(u32, u32, u32);
+#[derive(Clone, Copy, Debug, PartialEq, Eq)]
+struct Answer {
+    refusal: u32,
+    place: u32,
+    length: usize,
+}
 
-fn told_unwritten(unwritten: Unwritten) -> Answer {
-    match unwritten {
-        Unwritten::Tablets => Answer(3, 0, 0),
-        Unwritten::Values => Answer(4, 0, 0),
-        Unwritten::Bodies => Answer(5, 0, 0),
-        Unwritten::Counts => Answer(6, 0, 0),
-        Unwritten::BadRecord(place) => Answer(7, place, 0),
-        Unwritten::Room => Answer(9, 0, 0),
+impl From<Unwritten> for Answer {
+    fn from(unwritten: Unwritten) -> Answer {
+        let (refusal, place) = match unwritten {
+            Unwritten::Tablets => (3, 0),
+            Unwritten::Values => (4, 0),
+            Unwritten::Bodies => (5, 0),
+            Unwritten::Counts => (6, 0),
+            Unwritten::BadRecord(place) => (7, place),
+            Unwritten::Room => (9, 0),
+        };
+        Answer {
+            refusal,
+            place,
+            length: 0,
+        }
     }
 }
 
-fn told(written: Written) -> Answer {
+fn told(written: Result<u32, Unwritten>) -> Answer {
     match written {
-        Written::Length(length) => Answer(0, 0, length),
-        Written::Refused(unwritten) => told_unwritten(unwritten),
+        Ok(length) => Answer {
+            refusal: 0,
+            place: 0,
+            length: length as usize,
+        },
+        Err(unwritten) => Answer::from(unwritten),
     }
 }
 
-// Whether the writer answers as a case expects.
-fn says(packed: &[u8], written: Written) -> bool {
-    let answer = told(written);
-    let length = cases::held(packed, case::EXPECTED).len();
-    if answer.2 as usize != length {
-        return false;
+// The answer that a case expects.
+impl From<Case<'_>> for Answer {
+    fn from(case: Case<'_>) -> Answer {
+        Answer {
+            refusal: case.number(case::REFUSAL),
+            place: case.number(case::PLACE),
+            length: case.held(case::EXPECTED).len(),
+        }
     }
-    (answer.0 == cases::number(packed, case::REFUSAL))
-        & (answer.1 == cases::number(packed, case::PLACE))
 }
 
 // Whether the writer, with these counts and this buffer, does what a case expects.
-fn writes(packed: &[u8], counts: &[u32], buffer: &mut [u8]) -> bool {
-    let n = cases::number(packed, case::TABLETS);
-    let v = cases::number(packed, case::VALUES);
-    let records = cases::held(packed, case::GIVEN);
+fn writes(case: Case<'_>, counts: &[u32], buffer: &mut [u8]) -> bool {
+    let n = case.number(case::TABLETS);
+    let v = case.number(case::VALUES);
+    let records = case.held(case::GIVEN);
     let written = writer::write_file(n, v, counts, records, buffer);
-    says(packed, written) & cases::stands(cases::held(packed, case::EXPECTED), buffer)
-}
-
-// The same with as many of these counts, and as much of this room, as the case says.
-fn writes_within(packed: &[u8], counts: &[u32], room: &mut [u8]) -> bool {
-    let k = cases::held(packed, case::COUNTS).len() / 4;
-    let length = cases::number(packed, case::BUFFER) as usize;
-    if counts.len() < k {
-        return false;
-    }
-    if room.len() < length {
-        return false;
-    }
-    writes(packed, &counts[0..k], &mut room[0..length])
+    told(written) == Answer::from(case) && cases::stands(case.held(case::EXPECTED), buffer)
 }
 
 // The counts of a case, and 0 after the last of them.
-fn counts_of(packed: &[u8]) -> [u32; 32]
-    ensures { 32 ≡ length result }
-{
-    let held = cases::held(packed, case::COUNTS);
-    let mut counts = [0u32; 32];
-    let mut i = 0;
-    while i < 32 {
-        counts[i] = cases::number(held, 4 * i);
-        i += 1;
+fn counts_of(case: Case<'_>) -> [u32; 32] {
+    let held = Case {
+        packed: case.held(case::COUNTS),
+    };
+    let mut counts = [0; 32];
+    for (i, count) in counts.iter_mut().enumerate() {
+        *count = held.number(4 * i);
     }
     counts
 }
 
-// Room for every buffer, filled with the pattern.
-fn filled() -> [u8; 65536]
-    ensures { 65536 ≡ length result }
-{
-    [cases::PATTERN; 65536]
-}
-
-// Whether the writer does what a case expects.
-pub fn agrees(packed: &[u8]) -> bool {
-    let counts = counts_of(packed);
-    let mut room = filled();
-    writes_within(packed, &counts, &mut room)
+// Whether the writer does what a case expects, with as many counts and as much room as the case says, of which there is enough
+// for every case.
+pub fn agrees(case: Case<'_>) -> bool {
+    let counts = counts_of(case);
+    let mut room = cases::filled::<65536>();
+    let k = case.held(case::COUNTS).len() / 4;
+    let length = case.number(case::BUFFER) as usize;
+    match (counts.get(..k), room.get_mut(..length)) {
+        (Some(counts), Some(buffer)) => writes(case, counts, buffer),
+        _ => false,
+    }
 }
