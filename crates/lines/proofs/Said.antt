@@ -9,7 +9,7 @@ use Rattle.lines.specs.Text.{refusal_text, refused_text, said_text, answer_text,
 use Rattle.lines.specs.Put.{line_room}
 use Rattle.lines.proofs.Decimal.{ten_digits}
 
-refusal_short : (number place : ℕ) → length (refusal_text number place) ≤ 33
+pub refusal_short : (number place : ℕ) → length (refusal_text number place) ≤ 33
 unfolding refusal_text
 refusal_short number place = simp length-append (omega (arith, ten_digits number, ten_digits place))
 

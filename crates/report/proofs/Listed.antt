@@ -12,15 +12,13 @@ use Rattle.tracefile.specs.Refusals.{and_then}
 use Rattle.tracefile.specs.File.{bodies_in, check, check_trace, outside}
 use Rattle.tracefile.specs.declared.Refusal.{Refusal}
 use Rattle.tracefile.specs.declared.Refusal.TheVariants.{Length, Edition, Tablets, Values, Bodies, Contents, BadRecord, Trace}
-use Rattle.tracefile.specs.declared.Checked.{Checked}
-use Rattle.tracefile.specs.declared.Checked.TheVariants.{Good, Refused}
 use Rattle.tracefile.proofs.Good.{good_file}
 use Rattle.lines.specs.Text.{refused_text}
 use Rattle.lines.specs.Put.{line_room, written, after}
-use Rattle.lines.proofs.Putting.{Line, stood, line_put}
+use Rattle.lines.proofs.Putting.{Whole, stood, line_put}
 use Rattle.report.specs.Printed.{trace_text, traces_text, file_text, printed}
 use Rattle.report.specs.Rooms.{trace_room, report_room, PutIn}
-use Rattle.report.proofs.Parts.{then_in}
+use Rattle.report.proofs.Parts.{in_rest, rest_kept, then_in}
 
 -- a trace with a number from 1 to k is there
 pub is_there : (f : List ℕ) (t : ℕ) → check f ≡ R.accepted → 1 ≤ t → t ≤ bodies_in f → check_trace f t ≡ R.accepted
@@ -34,7 +32,7 @@ is_there f t good low high =
 -- Whatever puts the traces that are left, from here, puts all of them from the front.
 pub record Reached (f : List ℕ) (traces : ℕ) (out₀ out : List ℕ) (at done : ℕ) : Type 0 where
   pub within : done ≤ traces
-  pub kept : length out ≡ length out₀
+  pub inside : at ≤ length out
   pub completes : check f ≡ R.accepted → traces ≡ bodies_in f → (next : ℕ) (last : List ℕ)
       → PutIn ((traces - done) * trace_room) (traces_text f (traces - done) (done + 1)) out at next last
       → PutIn (traces * trace_room) (traces_text f traces 1) out₀ 0 next last
@@ -44,24 +42,24 @@ at_first f traces out =
     let e : traces - 0 ≡ traces = omega arith in
     record {
       within = omega arith;
-      kept = refl;
+      inside = omega arith;
       completes = λ good all next last p. subst (λ (n : ℕ). PutIn (n * trace_room) (traces_text f n 1) out 0 next last) e p;
     }
 
-pub one_more : (f : List ℕ) (traces : ℕ) (out₀ out between : List ℕ) (at middle done : ℕ) → Reached f traces out₀ out at done → done < traces
-    → length between ≡ length out
-    → (check_trace f (done + 1) ≡ R.accepted → PutIn trace_room (trace_text f (done + 1)) out at middle between)
-    → Reached f traces out₀ between middle (done + 1)
+pub one_more : (f : List ℕ) (traces : ℕ) (out₀ out copied : List ℕ) (at count done : ℕ) → Reached f traces out₀ out at done → done < traces
+    → count ≤ length copied → length copied ≡ length (take (length out - at) (drop at out))
+    → (check_trace f (done + 1) ≡ R.accepted → PutIn trace_room (trace_text f (done + 1)) (take (length out - at) (drop at out)) 0 count copied)
+    → Reached f traces out₀ (take at out ++ (copied ++ drop (length out - at) (drop at out))) (at + count) (done + 1)
 unfolding traces_text
-one_more f traces out₀ out between at middle done r h l p =
+one_more f traces out₀ out copied at count done r h l kept p =
     let e : traces - done ≡ suc (traces - (done + 1)) = omega arith in
     record {
       within = omega arith;
-      kept = l ∙ r.kept;
+      inside = rw (rest_kept out copied at r.inside kept) (omega arith);
       completes = λ good all next last q.
           let g : trace_room + (traces - (done + 1)) * trace_room ≡ suc (traces - (done + 1)) * trace_room = omega arith in
-          let here = p (is_there f (done + 1) good (omega arith) (omega arith)) in
-          let both = then_in trace_room ((traces - (done + 1)) * trace_room) _ _ out between at middle next last here q in
+          let here = in_rest trace_room _ out at count copied r.inside (p (is_there f (done + 1) good (omega arith) (omega arith))) in
+          let both = then_in trace_room ((traces - (done + 1)) * trace_room) _ _ out _ at (at + count) next last here q in
           r.completes good all next last
           (subst (λ (n : ℕ). PutIn (n * trace_room) (traces_text f n (done + 1)) out at next last) (sym e)
           (subst (λ (room : ℕ). PutIn room (trace_text f (done + 1) ++ traces_text f (traces - (done + 1)) (done + 1 + 1)) out at next last) g both));
@@ -84,7 +82,7 @@ all_put f traces out₀ out at done r h good all =
 
 -- a line for which less room would do
 with_less : (need room : ℕ) (text out : List ℕ) (count : ℕ) (last : List ℕ) → need ≤ room → room ≤ length out
-    → Line need text out count last → Line room text out count last
+    → Whole need text out count last → Whole room text out count last
 unfolding written after
 with_less need room text out count last h enough p =
     let q : need ≤ length out = omega arith in
@@ -101,29 +99,25 @@ refusal_line_of (Contents at) traces = refl
 refusal_line_of (BadRecord at) traces = refl
 refusal_line_of Trace traces = refl
 
-pub refused_printed : (f out : List ℕ) (x : Checked) (r : Refusal) (count : ℕ) (last : List ℕ) → report_room ≤ length out
-    → R.told x ≡ check f → x ≡ Refused r → Line line_room (refused_text (R.refusal r)) out count last → Line report_room (printed f) out count last
+pub refused_printed : (f out : List ℕ) (r : Refusal) (count : ℕ) (last : List ℕ) → report_room ≤ length out
+    → R.refusal r ≡ check f → Whole line_room (refused_text (R.refusal r)) out count last → Whole report_room (printed f) out count last
 unfolding printed
-refused_printed f out x r count last enough h e p =
-    let c : R.refusal r ≡ check f = sym (ap R.told e) ∙ h in
-    subst (λ (text : List ℕ). Line report_room text out count last)
-    (refusal_line_of r (traces_text f (bodies_in f) 1) ∙ ap (λ (a : R.Answer). file_text a (traces_text f (bodies_in f) 1)) c)
+refused_printed f out r count last enough refused p =
+    subst (λ (text : List ℕ). Whole report_room text out count last)
+    (refusal_line_of r (traces_text f (bodies_in f) 1) ∙ ap (λ (a : R.Answer). file_text a (traces_text f (bodies_in f) 1)) refused)
     (with_less line_room report_room (refused_text (R.refusal r)) out count last (omega arith) enough p)
-
-pub is_good : (f : List ℕ) (x : Checked) → R.told x ≡ check f → x ≡ Good → check f ≡ R.accepted
-is_good f x h e = sym h ∙ ap R.told e
 
 pub fourth_byte : (f : List ℕ) → check f ≡ R.accepted → 3 < length f
 fourth_byte f good = let l = (good_file f good).of_head.long in omega arith
 
 pub traces_printed : (f out : List ℕ) (traces count : ℕ) (last : List ℕ) → report_room ≤ length out → check f ≡ R.accepted → traces ≡ bodies_in f
     → (check f ≡ R.accepted → traces ≡ bodies_in f → PutIn (traces * trace_room) (traces_text f traces 1) out 0 count last)
-    → Line report_room (printed f) out count last
+    → Whole report_room (printed f) out count last
 unfolding printed file_text PutIn
 traces_printed f out traces count last enough good all p =
     let few = (good_file f good).of_head.bodies.1 in
     let s = p good all (omega arith) in
     let text : traces_text f traces 1 ≡ file_text (check f) (traces_text f (bodies_in f) 1) =
     ap (λ (n : ℕ). traces_text f n 1) all ∙ ap (λ (a : R.Answer). file_text a (traces_text f (bodies_in f) 1)) (sym good) in
-    subst (λ (l : List ℕ). Line report_room l out count last) text
+    subst (λ (l : List ℕ). Whole report_room l out count last) text
     (line_put report_room (traces_text f traces 1) out count last enough (omega (arith, s.1)) (stood (traces_text f traces 1) out 0 count last s.0))

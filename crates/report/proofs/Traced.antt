@@ -2,9 +2,9 @@
 -- Assumes nothing.
 use mathlib.Core.List.{List, [], ◌∷◌, ◌++◌, append-nil}
 use mathlib.Core.Path.{◌≡◌, refl, sym, ap, ◌∙◌, subst}
-use Prim.Native.Nat.{ℕ, ◌*◌, ◌≤◌}
+use Prim.Native.Nat.{ℕ, ◌+◌, ◌-◌, ◌*◌, ◌≤◌}
 use native.Mathlib.Omega.{arith}
-use lib.ListN.{length, take, drop, length-append, length-drop}
+use lib.ListN.{length, take, drop, length-append, length-take, length-drop}
 use lib.Seq.{take_at}
 use Rattle.model.specs.Walk.{Outcome, explained, unexplained, undecided, too_deep}
 use Rattle.model.specs.Model.{outcome}
@@ -15,15 +15,21 @@ use Rattle.tracefile.specs.Refusals as R
 use Rattle.tracefile.specs.File.{tablets_in, check_trace}
 use Rattle.walk.specs.Steps.{laid, laid_in, outcome_in}
 use Rattle.verdict.specs.declared.Verdict.{Verdict}
-use Rattle.verdict.specs.declared.Verdict.TheVariants.{Explained, Unexplained, Undecided, Refused, NoRoom, TooDeep}
+use Rattle.verdict.specs.declared.Verdict.TheVariants.{Explained, Unexplained, Undecided}
+use Rattle.verdict.specs.declared.Refusal.{Refusal}
+use Rattle.verdict.specs.declared.Refusal.TheVariants.{File, NoRoom, TooDeep}
+use Rattle.std.proofs.Common.{Result, Ok, Err}
 use Rattle.verdict.specs.Judged.{Said, explained_by, unexplained_in, undecided_at, refused, file_refusal, told, evening, said, judged, room_judged}
 use Rattle.verdict.proofs.Calls.{depth_small}
-use Rattle.verdict.proofs.Demands.{Ready, as_walked, room_as_walked}
+use Rattle.verdict.proofs.Demands.{Ready, as_walked, room_as_walked, explained_only_with}
 use Rattle.lines.specs.Text.{answer_text, events_text}
-use Rattle.lines.specs.Put.{line_room}
+use Rattle.lines.specs.Put.{line_room, events_room}
+use Rattle.lines.proofs.Putting.{Whole}
+use Rattle.lines.proofs.Said.{answer_short}
+use Rattle.lines.proofs.Events.{events_few}
 use Rattle.report.specs.Printed.{budget, explanation_text, trace_text}
 use Rattle.report.specs.Rooms.{room_size, explanation_room, trace_room, PutIn}
-use Rattle.report.proofs.Parts.{then_in, wider, in_as}
+use Rattle.report.proofs.Parts.{line_in, in_rest, then_in, in_as}
 
 -- an event has two bytes
 pub length_laid : (es : List Event) → length (laid es) ≡ 2 * length es
@@ -49,13 +55,13 @@ refusal_explains_nothing R.accepted h = h
 refusal_explains_nothing (R.refused number place) h = h
 
 -- an answer of any case but the first
-not_explained : (v : Verdict) → ((k m : ℕ) → v ≡ Explained k m → ⊥) → IsExplained (told v) → ⊥
-not_explained (Explained k m) h i = h k m refl
-not_explained (Unexplained k) h i = i
-not_explained (Undecided b) h i = i
-not_explained (Refused r) h i = refusal_explains_nothing (R.refusal r) i
-not_explained NoRoom h i = i
-not_explained TooDeep h i = i
+pub not_explained : (v : Result Verdict Refusal) → ((k m : ℕ) → v ≡ Ok (Explained k m) → ⊥) → IsExplained (told v) → ⊥
+not_explained (Ok (Explained k m)) h i = h k m refl
+not_explained (Ok (Unexplained k)) h i = i
+not_explained (Ok (Undecided b)) h i = i
+not_explained (Err (File r)) h i = refusal_explains_nothing (R.refusal r) i
+not_explained (Err NoRoom) h i = i
+not_explained (Err TooDeep) h i = i
 
 -- an outcome of which something else is said has no second line
 no_second_line : (o : Outcome Event) → (IsExplained (said o) → ⊥) → explanation_text o ≡ []
@@ -80,9 +86,15 @@ second_line (unexplained j) k m zeros room e g kept = let z : ◌≡◌ {A = ℕ
 second_line (undecided b) k m zeros room e g kept = let z : ◌≡◌ {A = ℕ} 0 1 = cc in absurd (omega arith)
 second_line too_deep k m zeros room e g kept = let z : ◌≡◌ {A = ℕ} 0 1 = cc in absurd (omega arith)
 
+-- as many events as are laid in a room have room there
+laid_there : (es : List Event) (m : ℕ) (zeros room : List ℕ) → length es ≡ m → room ≡ laid_in es zeros → length room ≡ length zeros → 2 * m ≤ length room
+unfolding laid_in
+laid_there es m zeros room count e kept =
+    omega (arith, length_laid es, ap length e ∙ length-append (laid es) (drop (2 * length es) zeros), length-drop (2 * length es) zeros)
+
 -- ---- the lines are put
 
-module _ (f : List ℕ) (t : ℕ) (zeros room : List ℕ) (v : Verdict) (size : room_size ≡ length zeros)
+module _ (f : List ℕ) (t : ℕ) (zeros room : List ℕ) (v : Result Verdict Refusal) (size : room_size ≡ length zeros)
     (says : told v ≡ judged f t budget (length zeros)) (leaves : room ≡ room_judged f t budget zeros) (kept : length room ≡ length zeros)
     (good : check_trace f t ≡ R.accepted) where
   ready : Ready f t zeros
@@ -91,22 +103,33 @@ module _ (f : List ℕ) (t : ℕ) (zeros room : List ℕ) (v : Verdict) (size : 
   said_so : told v ≡ said (outcome (tablets_in f) (evening f t) budget)
   said_so = says ∙ as_walked f t budget zeros ready
 
-  pub one_line : (out : List ℕ) (at next : ℕ) (last : List ℕ) → ((k m : ℕ) → v ≡ Explained k m → ⊥)
-      → PutIn line_room (answer_text t (told v)) out at next last → PutIn trace_room (trace_text f t) out at next last
+  pub one_line : (out : List ℕ) (next : ℕ) (last : List ℕ) → ((k m : ℕ) → v ≡ Ok (Explained k m) → ⊥)
+      → Whole line_room (answer_text t (told v)) out next last → PutIn trace_room (trace_text f t) out 0 next last
   unfolding trace_text
-  one_line out at next last h p =
+  one_line out next last h p =
       let none = no_second_line (outcome (tablets_in f) (evening f t) budget) (λ i. not_explained v h (subst IsExplained (sym said_so) i)) in
-      in_as trace_room out at next last
+      in_as trace_room out 0 next last
       (ap (answer_text t) said_so ∙ sym (append-nil _) ∙ ap (λ (l : List ℕ). answer_text t (said (outcome (tablets_in f) (evening f t) budget)) ++ l) (sym none))
-      (wider line_room trace_room (answer_text t (told v)) out at next last (omega arith) p)
+      (line_in line_room trace_room (answer_text t (told v)) out next last (omega arith) (answer_short t (told v)) p)
 
-  pub two_lines : (k m : ℕ) (out between : List ℕ) (at middle next : ℕ) (last : List ℕ) → v ≡ Explained k m
-      → PutIn line_room (answer_text t (told v)) out at middle between
-      → (2 * m ≤ room_size → room_size ≡ length room → PutIn explanation_room (events_text (take (2 * m) room)) between middle next last)
-      → PutIn trace_room (trace_text f t) out at next last
+  pub two_lines : (k m : ℕ) (out between : List ℕ) (middle count : ℕ) (copied : List ℕ) → v ≡ Ok (Explained k m)
+      → Whole line_room (answer_text t (told v)) out middle between → middle ≤ length between
+      → Whole (events_room (take (2 * m) room)) (events_text (take (2 * m) room)) (take (length between - middle) (drop middle between)) count copied
+      → PutIn trace_room (trace_text f t) out 0 (middle + count) (take middle between ++ (copied ++ drop (length between - middle) (drop middle between)))
   unfolding trace_text
-  two_lines k m out between at middle next last e p q =
+  two_lines k m out between middle count copied e p inside q =
       let s = second_line (outcome (tablets_in f) (evening f t) budget) k m zeros room (sym (ap told e) ∙ said_so) (leaves ∙ room_as_walked f t budget zeros ready) kept in
-      then_in line_room explanation_room _ _ out between at middle next last
-      (in_as line_room out at middle between (ap (answer_text t) said_so) p)
-      (in_as explanation_room between middle next last s.1 (q (omega (arith, s.0)) (size ∙ sym kept)))
+      let few : events_room (take (2 * m) room) ≤ explanation_room = rw length-take (omega (arith, s.0)) in
+      then_in line_room explanation_room _ _ out between 0 middle (middle + count) _
+      (in_as line_room out 0 middle between (ap (answer_text t) said_so)
+      (line_in line_room line_room (answer_text t (told v)) out middle between (omega arith) (answer_short t (told v)) p))
+      (in_rest explanation_room _ between middle count copied inside
+      (in_as explanation_room (take (length between - middle) (drop middle between)) 0 count copied s.1
+      (line_in (events_room (take (2 * m) room)) explanation_room (events_text (take (2 * m) room)) (take (length between - middle) (drop middle between)) count copied few (events_few (take (2 * m) room)) q)))
+
+-- the events of an explanation stand in the room
+pub events_there : (f : List ℕ) (t k m : ℕ) (zeros room : List ℕ) (v : Result Verdict Refusal) → told v ≡ judged f t budget (length zeros)
+    → room ≡ room_judged f t budget zeros → length room ≡ length zeros → v ≡ Ok (Explained k m) → 2 * m ≤ length room
+events_there f t k m zeros room v says leaves kept e =
+    let held = explained_only_with f t budget zeros k m (told v) room (record { says = says; leaves = leaves }) (ap told e) in
+    laid_there held.0 m zeros room held.1.1.0 held.1.1.1 kept

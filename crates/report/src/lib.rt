@@ -8,7 +8,6 @@ ghost use Rattle.lines.specs.Put.{written, after};
 ghost use Rattle.report.specs.Printed.{printed};
 ghost use Rattle.report.specs.Rooms.{report_room};
 
-use tracefile::Checked;
 use traces::put_traces;
 
 // The room for the longest text: a file has at most 16 traces.
@@ -23,9 +22,7 @@ pub fn report(file: &[u8], out: &mut [u8]) -> usize
         return 0;
     }
     match tracefile::check_file(file) {
-        Checked::Refused(refusal) => return lines::refusal_line(refusal, out),
-        Checked::Good => {}
+        Ok(()) => put_traces(file, file[3], out),
+        Err(refusal) => lines::refusal_line(refusal, out),
     }
-    let traces = file[3];
-    put_traces(file, traces as u32, out)
 }
