@@ -128,8 +128,8 @@ module _ (f : List ℕ) (t : ℕ) (zeros room : List ℕ) (v : Result Verdict Re
       (line_in (events_room (take (2 * m) room)) explanation_room (events_text (take (2 * m) room)) (take (length between - middle) (drop middle between)) count copied few (events_few (take (2 * m) room)) q)))
 
 -- the events of an explanation stand in the room
-pub events_there : (f : List ℕ) (t k m : ℕ) (zeros room : List ℕ) (v : Result Verdict Refusal) → told v ≡ judged f t budget (length zeros)
-    → room ≡ room_judged f t budget zeros → length room ≡ length zeros → v ≡ Ok (Explained k m) → 2 * m ≤ length room
-events_there f t k m zeros room v says leaves kept e =
-    let held = explained_only_with f t budget zeros k m (told v) room (record { says = says; leaves = leaves }) (ap told e) in
+pub events_there : (f : List ℕ) (t b k m : ℕ) (zeros room : List ℕ) (v : Result Verdict Refusal) → told v ≡ judged f t b (length zeros)
+    → room ≡ room_judged f t b zeros → length room ≡ length zeros → v ≡ Ok (Explained k m) → 2 * m ≤ length room
+events_there f t b k m zeros room v says leaves kept e =
+    let held = explained_only_with f t b zeros k m (told v) room (record { says = says; leaves = leaves }) (ap told e) in
     laid_there held.0 m zeros room held.1.1.0 held.1.1.1 kept

@@ -16,12 +16,14 @@ use Rattle.report.proofs.traces.put_trace.Goals as goal
 pub slice_bounds-room-end : goal.slice_bounds-room-end
 slice_bounds-room-end c =
     let said : c.explain-said.result ≡ Ok (Explained c.in-Ok-Explained.field-0-0 c.in-Ok-Explained.events) = search rules in
-    events_there _ _ _ _ _ _ _ c.explain-said.ensures.result c.explain-said.ensures.room (search rules) said
+    let there = events_there _ _ _ _ _ _ _ _ c.explain-said.ensures.result c.explain-said.ensures.room (search rules) said in
+    omega arith
 
 pub slice_bounds-explanation-end : goal.slice_bounds-explanation-end
 slice_bounds-explanation-end c =
     let said : c.explain-said.result ≡ Ok (Explained c.in-Ok-Explained.field-0-0 c.in-Ok-Explained.events) = search rules in
-    sym (length-take-le _ _ (events_there _ _ _ _ _ _ _ c.explain-said.ensures.result c.explain-said.ensures.room (search rules) said))
+    let there = events_there _ _ _ _ _ _ _ _ c.explain-said.ensures.result c.explain-said.ensures.room (search rules) said in
+    sym (length-take-le _ _ (omega arith))
 
 pub slice_bounds-events_line-count : goal.slice_bounds-events_line-count
 slice_bounds-events_line-count c = within _ _ _ _ _ (c.answer_line-size.ensures.result, c.answer_line-size.ensures.out)
