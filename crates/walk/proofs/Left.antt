@@ -1,14 +1,14 @@
 -- What is left of the budget, and the room, as one choice is tried after the other.
 -- Assumes nothing.
 use mathlib.Core.Bool.{Bool, true, false, cond}
-use mathlib.Core.List.{List, [], ◌∷◌, ◌++◌}
+use mathlib.Core.List.{List, [], ◌∷◌, ◌++◌, append_assoc}
 use mathlib.Core.Path.{◌≡◌, refl, sym, ap, ap₂, ◌∙◌}
 use Prim.Native.Nat.{ℕ, suc, ◌+◌, ◌-◌, ◌*◌, ◌≤◌, ◌<◌}
 use native.Mathlib.Decide.{dec_le}
 use native.Mathlib.Omega.{arith}
 use Rattle.std.proofs.Common.{Option, Some, None, Result, Ok, Err}
 use lib.Dec.{leb, ltb}
-use lib.ListN.{length, take, drop, set}
+use lib.ListN.{length, take, drop}
 use lib.Seq.{drop-drop}
 use borrow.Author.Tests.{le-leb, lt-leb, lt-ltb, le-ltb, leb-true, leb-false}
 use Rattle.model.specs.Walk.{Walked, found, endless, stopped, after, or_else}
@@ -206,19 +206,19 @@ room_kept b (endless k) room h = refl
 room_kept b (stopped k) room h = refl
 
 -- an end's events behind one more
-pub room_found : (n b l k : ℕ) (e : Event) (w r : Walked Event) (x y : ℕ) (room : List ℕ) → event_bytes e ≡ x ∷ y ∷ [] → left_of b w ≡ an_end l k → 2 ≤ length room
-    → set (set (take 2 room ++ room_after b w (drop 2 room)) 0 x) 1 y ≡ room_after b (or_else (service n) e w r) room
+pub room_found : (n b l k : ℕ) (e : Event) (w r : Walked Event) (room : List ℕ) → left_of b w ≡ an_end l k → 2 ≤ length room
+    → event_bytes e ++ drop 2 (take 2 room ++ room_after b w (drop 2 room)) ≡ room_after b (or_else (service n) e w r) room
 unfolding left_of room_after or_else laid_in laid
-room_found n b l k e (found j es) r x y [] p h m = absurd (omega arith)
-room_found n b l k e (found j es) r x y (u ∷ []) p h m = absurd (omega arith)
-room_found n b l k e (found j es) r x y (u ∷ v ∷ room) p h m = go (leb j b) h
+room_found n b l k e (found j es) r [] h m = absurd (omega arith)
+room_found n b l k e (found j es) r (u ∷ []) h m = absurd (omega arith)
+room_found n b l k e (found j es) r (u ∷ v ∷ room) h m = go (leb j b) h
   where
     go : (t : Bool) → cond t (an_end (b - j) (length es)) (Err Spent) ≡ an_end l k
-        → x ∷ y ∷ cond t (laid es ++ drop (2 * length es) room) room ≡ cond t (event_bytes e ++ laid es ++ drop (2 * suc (length es)) (u ∷ v ∷ room)) (u ∷ v ∷ room)
+        → event_bytes e ++ cond t (laid es ++ drop (2 * length es) room) room ≡ cond t ((event_bytes e ++ laid es) ++ drop (2 * suc (length es)) (u ∷ v ∷ room)) (u ∷ v ∷ room)
     go true g =
         let q : 2 * suc (length es) ≡ 2 + 2 * length es = omega arith in
-        ap (λ (d : List ℕ). x ∷ y ∷ (laid es ++ d)) (drop-drop (2 * length es) 2 (u ∷ v ∷ room) ∙ ap (λ (i : ℕ). drop i (u ∷ v ∷ room)) (sym q))
-        ∙ ap (λ (f : List ℕ). f ++ laid es ++ drop (2 * suc (length es)) (u ∷ v ∷ room)) (sym p)
+        ap (λ (d : List ℕ). event_bytes e ++ (laid es ++ d)) (drop-drop (2 * length es) 2 (u ∷ v ∷ room) ∙ ap (λ (i : ℕ). drop i (u ∷ v ∷ room)) (sym q))
+        ∙ sym (append_assoc (event_bytes e) (laid es) (drop (2 * suc (length es)) (u ∷ v ∷ room)))
     go false g = absurd cc
-room_found n b l k e (endless j) r x y room p h m = absurd (neither (leb j b) (no_end (b - j)) (Err Spent) (an_end l k) (one_of_two _ _ _) (λ e. cc) h)
-room_found n b l k e (stopped j) r x y room p h m = absurd (neither (ltb j b) (Err Deep) (Err Spent) (an_end l k) (λ e. cc) (λ e. cc) h)
+room_found n b l k e (endless j) r room h m = absurd (neither (leb j b) (no_end (b - j)) (Err Spent) (an_end l k) (one_of_two _ _ _) (λ e. cc) h)
+room_found n b l k e (stopped j) r room h m = absurd (neither (ltb j b) (Err Deep) (Err Spent) (an_end l k) (λ e. cc) (λ e. cc) h)

@@ -1,14 +1,14 @@
 -- Each way out of a choice: what it hands back and what it leaves in the room are what the definition says.
 -- Assumes nothing.
 use mathlib.Core.Bool.{Bool, true, false, cond}
-use mathlib.Core.List.{List, [], ◌∷◌, ◌++◌, append-nil}
+use mathlib.Core.List.{List, ◌++◌, append-nil}
 use mathlib.Core.Path.{◌≡◌, refl, sym, ap, ap₂, ◌∙◌, subst}
 use Prim.Native.Nat.{ℕ, ◌+◌, ◌-◌, ◌*◌, ◌/◌, ◌≤◌, ◌<◌, ◌^◌}
-use native.Mathlib.Nat.{le_of_eq, mul-add}
+use native.Mathlib.Nat.{le_of_eq}
 use native.Mathlib.Omega.{arith}
 use Rattle.std.proofs.Common.{Some, None, Result, Ok, Err}
 use lib.Dec.{leb, ltb, eqb}
-use lib.ListN.{length, get_or, take, drop, set as set', length-drop, take-append-drop, drop_of_length-le}
+use lib.ListN.{length, take, drop, length-drop, take-append-drop, drop_of_length-le}
 use lib.Seq.{take_all}
 use borrow.Rule.Slice.PartMut.{same_len_mid}
 use Rattle.marks.specs.Sets.{remove, lowest}
@@ -22,7 +22,6 @@ use Rattle.model.specs.declared.Event.{Event}
 use Rattle.records.specs.Records.{record_at, observation_of, observations}
 use Rattle.walk.specs.Choices.{event_of, slot, choices_in}
 use Rattle.walk.specs.Steps.{event_bytes, an_end, no_end, left_of, room_after, deeper}
-use Rattle.walk.proofs.Events.{two_bytes}
 use Rattle.walk.proofs.Left.{an_end_is, no_end_is, same_end, one_of_two, neither, nothing_left, too_deep, step_found, step_none, step_none_room, step_stopped, Endless, room_kept, room_found}
 use Rattle.walk.proofs.Visits.{deeper_some, none_to_try, none_at_end, left_none, lowest_tried, child_walk, child_deep}
 use Rattle.walk.specs.declared.Seen.{Seen}
@@ -133,17 +132,15 @@ module _ (n b set : ℕ) (s : State) (body room : List ℕ) where
       pub same_room : Endless seen → after_visit ≡ room
       same_room q = put ∙ ap (λ (l : List ℕ). take 2 room ++ l) (room_kept b child (drop 2 room) (subst Endless child_seen q)) ∙ take-append-drop 2 room
 
-      pub end_found : (v : Seen) (k kind tablet : ℕ) → seen ≡ Ok v → v.events ≡ Some k
-          → kind ≡ get_or (event_bytes (event_of pick (observation_of (record_at body 0)))) 0 0
-          → tablet ≡ get_or (event_bytes (event_of pick (observation_of (record_at body 0)))) 1 0
-          → Hands b (trying n s set body room) room (an_end v.left (k + 1)) (set' (set' after_visit 0 kind) 1 tablet)
+      pub end_found : (v : Seen) (k : ℕ) (bytes : List ℕ) → seen ≡ Ok v → v.events ≡ Some k
+          → bytes ≡ event_bytes (event_of pick (observation_of (record_at body 0)))
+          → Hands b (trying n s set body room) room (an_end v.left (k + 1)) (bytes ++ drop 2 after_visit)
       unfolding p o
-      end_found v k kind tablet is_ok is_end g h =
+      end_found v k bytes is_ok is_end is_bytes =
           let c = sym child_seen ∙ is_ok ∙ an_end_is v k is_end in
           hand (an_end v.left (k + 1)) _ (step_found n b v.left k (event_of p o) child rest c)
-          (ap (λ (r : List ℕ). set' (set' r 0 kind) 1 tablet) put
-          ∙ room_found n b v.left k (event_of p o) child rest kind tablet room
-          (ap (λ (x : ℕ). event_bytes (event_of x (observation_of (record_at body 0)))) (sym is_pick) ∙ two_bytes (event_of pick (observation_of (record_at body 0))) ∙ ap₂ (λ (x y : ℕ). x ∷ y ∷ []) (sym g) (sym h)) c room_left)
+          (ap₂ (λ (bs r : List ℕ). bs ++ drop 2 r) (is_bytes ∙ ap (λ (x : ℕ). event_bytes (event_of x (observation_of (record_at body 0)))) is_pick) put
+          ∙ room_found n b v.left k (event_of p o) child rest room c room_left)
 
       pub others_tried : (v : Seen) (others : ℕ) (whole : Result Seen Stop) (final : List ℕ) → seen ≡ Ok v → v.events ≡ None → others ≡ remove 64 set pick
           → Hands v.left (trying n s others body after_visit) after_visit whole final → Hands b (trying n s set body room) room whole final
@@ -163,20 +160,10 @@ module _ (n b set : ℕ) (s : State) (body room : List ℕ) where
 
 -- ---- events fall at each visit, choices at each further choice
 
-pub visit_falls : (m x room set t : ℕ) → m * room + set ≡ t → 2 ≤ room → x ≡ room - 2 → 0 < m → m * x + m < t
-visit_falls m x room set t e l q h =
-    let r : room ≡ x + 2 = omega arith in
-    let k : m * room ≡ m * x + m * 2 = ap (λ (y : ℕ). m * y) r ∙ mul-add m x 2 in
-    let w : m * 2 ≡ m + m = omega arith in
-    omega arith
-
 pub choice_falls : (m x room rest set t : ℕ) → m * room + set ≡ t → x ≡ room → rest < set → m * x + rest < t
 choice_falls m x room rest set t e q h =
     let k : m * x ≡ m * room = ap (λ (y : ℕ). m * y) q in
     omega arith
-
-pub choices_fall : (a m set t : ℕ) → a + m ≡ t → set < m → a + set < t
-choices_fall a m set t e h = omega arith
 
 -- the set without its lowest is smaller
 pub fewer : (set pick rest : ℕ) → set < 2 ^ 64 → (set ≡ 0 → ⊥) → pick ≡ lowest 64 set → rest ≡ remove 64 set pick → rest < set

@@ -1,17 +1,20 @@
 -- The whole walk: the writes of a body, the room that it needs, and the answer with what is left in the room.
 -- Assumes nothing.
 use mathlib.Core.Bool.{Bool, true, false, cond}
-use mathlib.Core.List.{List, [], ◌∷◌, ◌++◌, append_assoc}
+use mathlib.Core.List.{List, ◌∷◌, ◌++◌, append_assoc}
 use mathlib.Core.Path.{◌≡◌, refl, sym, ap, ap₂, ◌∙◌, subst}
 use Prim.Native.Nat.{ℕ, zero, suc, ◌+◌, ◌-◌, ◌*◌, ◌/◌, ◌≤◌, ◌<◌}
-use native.Mathlib.Nat.{mul-zero, div-lt_iff_lt-mul, add-zero, zero-add}
+use native.Mathlib.Nat.{mul-zero, div-lt_iff_lt-mul, zero-add}
 use native.Mathlib.Decide.{dec_lt}
 use native.Mathlib.Omega.{arith}
 use Rattle.std.proofs.Common.{Result, Ok, Err}
+use Rattle.std.specs.List.{count_by}
+use Rattle.std.proofs.lemmas.List.Sums.{sum_by-cons}
+use Rattle.std.specs.Simd.{first_chunks}
 use lib.Dec.{leb, ltb}
 use lib.ListN.{length, take, drop, length-drop, take-append-drop}
-use lib.Seq.{drop-drop, drop-append-le, length-take-le}
-use borrow.Author.Tests.{lt-ltb, le-ltb, ltb-false, leb-true}
+use lib.Seq.{drop-append-le, length-take-le}
+use borrow.Author.Tests.{le-leb, lt-ltb, le-ltb, ltb-false, leb-true}
 use Rattle.model.specs.Walk.{Walked, found, endless, stopped, tried, walked, Outcome, explained, unexplained, undecided, too_deep, cut}
 use Rattle.model.specs.Model.{service, first_state, writes, depth, walk, outcome}
 use Rattle.model.proofs.Sound.{found_within, some_point}
@@ -21,11 +24,12 @@ use Rattle.model.specs.declared.Observation.{Observation}
 use Rattle.model.specs.declared.Observation.TheVariants.{Read, Write, Stabilize, Failed}
 use Rattle.model.specs.declared.Event.{Event}
 use Rattle.records.specs.Records.{record_at, observation_of, observed, observations}
-use Rattle.records.proofs.Parts.{record_drop}
+use Rattle.records.proofs.Parts.{record_part}
 use Rattle.records.specs.declared.Record.{Record}
+use Rattle.walk.specs.Rooms.{is_write}
 use Rattle.walk.specs.Choices.{choices_in, Possible}
 use Rattle.walk.specs.Steps.{laid, laid_in, left_of, room_after, deeper, an_end, no_end, first_end, none_in, answer_of, outcome_in, answered, room_answered}
-use Rattle.walk.proofs.Visits.{observed_on, observed_end, end_left, end_room, visit_left, visit_room}
+use Rattle.walk.proofs.Visits.{end_left, end_room, visit_left, visit_room}
 use Rattle.walk.specs.declared.Seen.{Seen}
 use Rattle.walk.specs.declared.Stop.{Stop}
 use Rattle.walk.specs.declared.Walked.{Walked as Told}
@@ -42,41 +46,29 @@ pub observations_length : (body : List ℕ) → length (observations body) ≡ l
 unfolding observations
 observations_length body = observed_length (length body / 12) body
 
-one_write : (o : Observation) (obs : List Observation) → writes (o ∷ obs) ≡ writes (o ∷ []) + writes obs
+one_write : (o : Observation) (obs : List Observation) → writes (o ∷ obs) ≡ cond (is_write o) 1 0 + writes obs
 unfolding writes
 one_write (Read t x) obs = sym (zero-add (writes obs))
 one_write (Write t y x) obs = omega arith
 one_write (Stabilize x c) obs = sym (zero-add (writes obs))
 one_write Failed obs = sym (zero-add (writes obs))
 
--- a record counts once at most, and as the code reads it
-pub once_at_most : (o : Observation) → writes (o ∷ []) ≤ 1
-unfolding writes
-once_at_most (Read t x) = omega arith
-once_at_most (Write t y x) = omega arith
-once_at_most (Stabilize x c) = omega arith
-once_at_most Failed = omega arith
+-- whether 12 bytes say a WRITE
+abbrev pub says_write : List ℕ → Bool
+says_write bytes = is_write (observation_of (record_at bytes 0))
 
-pub write_as : (r s : Record) (o k : Observation) → r ≡ s → o ≡ observation_of r → o ≡ k → writes (k ∷ []) ≡ writes (observation_of s ∷ [])
-write_as r s o k q e g = ap (λ (x : Observation). writes (x ∷ [])) (sym g ∙ e ∙ ap observation_of q)
-
--- counting goes on with the next record
-pub writes_on : (body : List ℕ) (at count more : ℕ) → at + 12 ≤ length body → writes (observations body) ≡ count + writes (observations (drop at body))
-    → more ≡ writes (observation_of (record_at body at) ∷ []) → writes (observations body) ≡ count + more + writes (observations (drop (at + 12) body))
-writes_on body at count more h e q =
-    let l = length-drop at body in
-    let r : record_at (drop at body) 0 ≡ record_at body at = record_drop body at 0 (omega arith) ∙ ap (record_at body) (add-zero at) in
-    let s : writes (observations (drop at body)) ≡ more + writes (observations (drop (at + 12) body)) =
-    ap writes (observed_on (drop at body) (omega arith)) ∙ one_write (observation_of (record_at (drop at body) 0)) (observations (drop 12 (drop at body)))
-    ∙ ap₂ ◌+◌ (ap (λ (o : Observation). writes (o ∷ [])) (ap observation_of r) ∙ sym q) (ap (λ (b : List ℕ). writes (observations b)) (drop-drop 12 at body)) in
-    omega arith
-
-pub writes_done : (body : List ℕ) (at count : ℕ) → length body - at < 12 → writes (observations body) ≡ count + writes (observations (drop at body)) → count ≡ writes (observations body)
-unfolding writes
-writes_done body at count h e =
-    let l = length-drop at body in
-    let z : writes (observations (drop at body)) ≡ 0 = ap writes (observed_end (drop at body) (omega arith)) in
-    omega arith
+-- the writes among the observations are the chunks of the body that say one
+pub writes_counted : (k : ℕ) (body : List ℕ) → 12 * k ≤ length body
+    → count_by says_write (first_chunks 12 k body) ≡ writes (observed k body)
+unfolding writes observed
+writes_counted zero body h = refl
+writes_counted (suc k) body h =
+    let l = length-drop 12 body in
+    sum_by-cons (λ (bytes : List ℕ). cond (says_write bytes) 1 0) (take 12 body) (first_chunks 12 k (drop 12 body))
+    ∙ ap₂ (λ (t : Bool) (others : ℕ). cond t 1 0 + others)
+    (ap (λ (r : Record). is_write (observation_of r)) (record_part body 0 (le-leb 12 (length body) (omega arith))))
+    (writes_counted k (drop 12 body) (omega arith))
+    ∙ sym (one_write (observation_of (record_at body 0)) (observed k (drop 12 body)))
 
 -- ---- the room that is needed
 

@@ -12,7 +12,7 @@ ghost use Rattle.records.specs.Records.{observations};
 ghost use Rattle.walk.specs.Choices.{choices_in};
 ghost use Rattle.walk.specs.Steps.{left_of, room_after, deeper, answered, room_answered};
 
-use choices::{after, kind_at, possible, tablet_at, used};
+use choices::{after, event_at, possible, used};
 use model::State;
 use rooms::{count_writes, short_of};
 
@@ -90,8 +90,7 @@ fn choose(
     let seen = visit(n, &body[skip..], next, left - 1, &mut room[2..])?;
     match seen.events {
         Some(events) => {
-            room[0] = kind_at(body, pick);
-            room[1] = tablet_at(body, pick);
+            room[..2].copy_from_slice(&event_at(body, pick));
             Ok(Seen {
                 events: Some(events + 1),
                 ..seen

@@ -1,40 +1,28 @@
 // How much room a walk may need: 2·(T + n·W) bytes for T observations with W writes on n tablets.
-ghost use Rattle.std.specs.Prelude.{◌≡◌, [], ◌∷◌, ◌+◌, ◌*◌, ltb};
+ghost use Rattle.std.specs.Prelude.{◌≡◌, ◌+◌, ◌*◌, ltb};
 ghost use Rattle.model.specs.Model.{writes};
+ghost use Rattle.walk.specs.Rooms.{is_write};
 ghost use Rattle.records.specs.Records.{record_at, observation_of, observations};
 
 use model::Observation;
+use records::Record;
 
-// 1 where the record at a place is a WRITE, and 0 otherwise.
-fn write_at(body: &[u8], at: usize) -> usize
-    ensures { result ≡ writes (observation_of (record_at body.now at) ∷ []) }
+// Whether a record's bytes say a WRITE.
+fn is_write(bytes: &[u8; 12]) -> bool
+    ensures { result ≡ is_write (observation_of (record_at bytes.now 0)) }
 {
-    match records::observation(records::read_record(body, at)) {
-        Observation::Read { tablet: _, seen: _ } => 0,
-        Observation::Write {
-            tablet: _,
-            new: _,
-            seen: _,
-        } => 1,
-        Observation::Stabilize {
-            seen: _,
-            conflicts: _,
-        } => 0,
-        Observation::Failed => 0,
-    }
+    matches!(
+        records::observation(Record::from(bytes)),
+        Observation::Write { .. }
+    )
 }
 
 // How many of a body's observations are writes.
 pub fn count_writes(body: &[u8]) -> usize
     ensures { result ≡ writes (observations body.now) }
 {
-    let mut at = 0usize;
-    let mut count = 0usize;
-    while 12 <= body.len() - at {
-        count += write_at(body, at);
-        at += 12;
-    }
-    count
+    let (whole, _) = body.as_chunks::<12>();
+    whole.iter().filter(|bytes| is_write(bytes)).count()
 }
 
 // Whether a room is short of what t observations with w writes on n tablets may need.

@@ -52,12 +52,11 @@ choose-overflow_add-result t c =
 
 pub choose-returns-in-Some : goal.choose-returns-in-Some
 choose-returns-in-Some t c =
-    let both = end_found _ _ _ _ _ c.args.room.now c.if-body-lt12.false c.ranges.choices.fits c.if-choices-eq0.false (omega arith) c.if-room-lt2.false _ _ _ _ _ c.lowest-pick.ensures c.after-next.ensures c.used-skip.ensures c.visit.ensures.result c.visit.ensures.room _ _ _ _ c.in_ok-seen.was c.in-Some.is c.kind_at.ensures c.tablet_at.ensures in record { result = both.0; room = both.1 }
+    let both = end_found _ _ _ _ _ c.args.room.now c.if-body-lt12.false c.ranges.choices.fits c.if-choices-eq0.false (omega arith) c.if-room-lt2.false _ _ _ _ _ c.lowest-pick.ensures c.after-next.ensures c.used-skip.ensures c.visit.ensures.result c.visit.ensures.room _ _ _ c.in_ok-seen.was c.in-Some.is (c.copy_from_slice.ensures.after ∙ c.event_at.ensures) in record { result = both.0; room = both.1 }
 
 pub choose-returns-then-others-eq0 : goal.choose-returns-then-others-eq0
 choose-returns-then-others-eq0 t c =
-    let h = no_choice _ _ _ _ _ _ c.if-others-eq0.true in
-    let both = others_tried _ _ _ _ _ c.args.room.now c.if-body-lt12.false c.ranges.choices.fits c.if-choices-eq0.false (omega arith) c.if-room-lt2.false _ _ _ _ _ c.lowest-pick.ensures c.after-next.ensures c.used-skip.ensures c.visit.ensures.result c.visit.ensures.room _ _ _ _ c.in_ok-seen.was c.in-None.is c.remove-others.ensures (no_end_is _ c.in-None.is ∙ h.0, h.1) in record { result = both.0; room = both.1 }
+    let both = others_tried _ _ _ _ _ c.args.room.now c.if-body-lt12.false c.ranges.choices.fits c.if-choices-eq0.false (omega arith) c.if-room-lt2.false _ _ _ _ _ c.lowest-pick.ensures c.after-next.ensures c.used-skip.ensures c.visit.ensures.result c.visit.ensures.room _ _ _ _ c.in_ok-seen.was c.in-None.is c.remove-others.ensures (no_end_is _ c.in-None.is ∙ (no_choice _ _ _ _ _ _ c.if-others-eq0.true).0, (no_choice _ _ _ _ _ _ c.if-others-eq0.true).1) in record { result = both.0; room = both.1 }
 
 pub choose-choose-requires : goal.choose-choose-requires
 choose-choose-requires t c =

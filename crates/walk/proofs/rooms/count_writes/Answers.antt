@@ -1,24 +1,21 @@
--- `walk::rooms::count_writes` meets its contract: one record more is counted.
+-- `walk::rooms::count_writes` meets its contract: the records that say a WRITE are counted.
 -- Assumes nothing.
-use mathlib.Core.Path.{sym}
-use Prim.Native.Nat.{◌≤◌}
-use native.Mathlib.Nat.{zero-add}
+use mathlib.Core.List.{List}
+use mathlib.Core.Path.{ap, ◌∙◌}
+use Prim.Native.Nat.{ℕ}
 use native.Mathlib.Omega.{arith}
-use Rattle.walk.proofs.Whole.{once_at_most, writes_on, writes_done}
+use borrow.Author.Tests.{tests}
+use borrow.Author.Rules.{rules}
+use Rattle.std.proofs.lemmas.Iterator.{YieldsList-from_slice}
+use Rattle.std.proofs.lemmas.Iterator.Consumers.{YieldsList-from_filter, count_from_yields_List}
+use Rattle.std.proofs.lemmas.List.Sums.{length-filter}
+use Rattle.std.specs.List.{count_by}
+use Rattle.records.specs.Records.{observations}
+use Rattle.walk.proofs.Whole.{says_write, writes_counted}
 use Rattle.walk.proofs.rooms.count_writes.Goals as goal
 
-pub loop-at-init : goal.loop-at-init
-loop-at-init c = (sym (zero-add _), omega arith, omega arith)
-
-pub overflow_add-count : goal.overflow_add-count
-overflow_add-count c =
-    let k : c.write_at-count.result ≤ 1 = rw c.write_at-count.ensures (once_at_most _) in
-    omega arith
-
-pub loop-at-preserved : goal.loop-at-preserved
-loop-at-preserved c =
-    let k : c.write_at-count.result ≤ 1 = rw c.write_at-count.ensures (once_at_most _) in
-    (writes_on _ _ _ _ (omega arith) c.loop-at.invariant.0 c.write_at-count.ensures, omega arith, omega arith)
-
 pub returns : goal.returns
-returns c = writes_done _ _ _ c.loop-at-test.false c.loop-at.invariant.0
+unfolding observations
+returns c =
+    count_from_yields_List _ _ c.count.ensures.ran (YieldsList-from_filter _ says_write (YieldsList-from_slice c.as_chunks.result.0.now cc) c.filter.ensures.closure (λ x r q k. search (rules, tests)))
+    ∙ length-filter says_write c.as_chunks.result.0.now ∙ ap (λ (xs : List (List ℕ)). count_by says_write xs) c.as_chunks.ensures.front ∙ writes_counted _ _ (omega arith)
