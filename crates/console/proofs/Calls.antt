@@ -22,22 +22,22 @@ filled area x y z =
     let rest = drop 4 (drop 4 area) in
     ap (λ (l : List ℕ). four_bytes x ++ (four_bytes y ++ (four_bytes z ++ l))) (drop_of_length-le rest {i = length (four_bytes x ++ (four_bytes y ++ rest)) - 8} (omega arith))
 
-module _ (file : List ℕ) (trace budget : ℕ) (room area : List ℕ) where
+module _ (file : List ℕ) (trace budget : ℕ) (room_lent area_lent : List ℕ) where
   abbrev pub Handing : ℕ → List ℕ → List ℕ → Type 0
   Handing answer room_left area_left =
-      (answer ≡ status file trace budget room area) × ((room_left ≡ room_after file trace budget room area) × (area_left ≡ area_after file trace budget room area))
+      record { result : answer ≡ status file trace budget room_lent area_lent; room : room_left ≡ room_after file trace budget room_lent area_lent; area : area_left ≡ area_after file trace budget room_lent area_lent }
 
   -- an area not of 12 bytes
-  pub wrong_area : (length area ≡ 12 → ⊥) → Handing 19 room area
+  pub wrong_area : (length area_lent ≡ 12 → ⊥) → Handing 19 room_lent area_lent
   unfolding status room_after area_after
-  wrong_area h = let e = ne_eqb (length area) 12 h in (rw e refl, (rw e refl, rw e refl))
+  wrong_area h = let e = ne_eqb (length area_lent) 12 h in record { result = rw e refl; room = rw e refl; area = rw e refl }
 
   -- any other: what is said is handed back
-  pub right_area : length area ≡ 12 → (said : Result Verdict Refusal) (handed : Handed) (room_left area_left : List ℕ)
-      → handed ≡ handed_by (told said) → told said ≡ judged file trace budget (length room) → room_left ≡ room_judged file trace budget room
+  pub right_area : length area_lent ≡ 12 → (said : Result Verdict Refusal) (handed : Handed) (room_left area_left : List ℕ)
+      → handed ≡ handed_by (told said) → told said ≡ judged file trace budget (length room_lent) → room_left ≡ room_judged file trace budget room_lent
       → area_left ≡ area_of handed → Handing handed.status room_left area_left
   unfolding status room_after area_after
   right_area h said handed room_left area_left e s r all =
-      let t = eq-eqb (length area) 12 h in
-      let q : handed ≡ handed_by (judged file trace budget (length room)) = e ∙ ap handed_by s in
-      (rw t (ap (λ (x : Handed). x.status) q), (rw t r, rw t (all ∙ ap area_of q)))
+      let t = eq-eqb (length area_lent) 12 h in
+      let q : handed ≡ handed_by (judged file trace budget (length room_lent)) = e ∙ ap handed_by s in
+      record { result = rw t (ap (λ (x : Handed). x.status) q); room = rw t r; area = rw t (all ∙ ap area_of q) }

@@ -70,7 +70,7 @@ one_of (refused number place) l = let x = l.0 in let y = l.1 in (omega arith, λ
 module _ (f : List ℕ) (t b : ℕ) (room area : List ℕ) (answer : ℕ) (room_left area_left : List ℕ) (p : Allowed f t b room area answer room_left area_left) where
   -- an area not of 12 bytes: "refusal 9 before all else", and it "stays untouched"
   pub area_as_it_came : (length area ≡ 12 → ⊥) → (answer ≡ 19) × ((room_left ≡ room) × (area_left ≡ area))
-  area_as_it_came h = let w = wrong_area f t b room area h in (p.says ∙ sym w.0, (p.leaves ∙ sym w.1.0, p.tells ∙ sym w.1.1))
+  area_as_it_came h = let w = wrong_area f t b room area h in (p.says ∙ sym w.result, (p.leaves ∙ sym w.room, p.tells ∙ sym w.area))
 
   -- what is said, and what the library's call below allows
   abbrev said : Said

@@ -31,7 +31,7 @@ use Rattle.verdict.specs.Judged.{Said, explained_by, unexplained_in, undecided_a
 
 -- what is said, and the room
 abbrev pub Says : List ℕ → ℕ → ℕ → List ℕ → Said → List ℕ → Type 0
-Says f t b room what last = (what ≡ judged f t b (length room)) × (last ≡ room_judged f t b room)
+Says f t b room what last = record { result : what ≡ judged f t b (length room); room : last ≡ room_judged f t b room }
 
 -- ---- a refusal of the file or of the trace number
 
@@ -60,11 +60,10 @@ refusal_keeps Trace room next = refl
 pub file_refused : (f : List ℕ) (t b : ℕ) (room : List ℕ) (r : Refusal) → R.refusal r ≡ check_trace f t
     → Says f t b room (file_refusal (R.refusal r)) room
 unfolding judged room_judged
-file_refused f t b room r h =
-    let c : check_trace f t ≡ R.refusal r = sym h in (
-      sym (ap (λ (a : R.Answer). unless_refused a (walked_in f t b (length room))) c ∙ refusal_said r (walked_in f t b (length room))),
-      sym (ap (λ (a : R.Answer). room_unless a room (room_walked f t b room)) c ∙ refusal_keeps r room (room_walked f t b room)),
-    )
+file_refused f t b room r h = record {
+  result = sym (ap (λ (a : R.Answer). unless_refused a (walked_in f t b (length room))) (sym h) ∙ refusal_said r (walked_in f t b (length room)));
+  room = sym (ap (λ (a : R.Answer). room_unless a room (room_walked f t b room)) (sym h) ∙ refusal_keeps r room (room_walked f t b room));
+}
 
 -- ---- the walk's answer
 
@@ -119,11 +118,11 @@ answer_said f t b room = go (ltb room (2 * depth (tablets_in f) (evening f t)))
 pub walk_said : (f : List ℕ) (t b n : ℕ) (room body : List ℕ) (a known : Result Told Stop) (last : List ℕ) → check_trace f t ≡ R.accepted → n ≡ tablets_in f → body ≡ asked f t
     → a ≡ answered n (observations body) b (length room) → last ≡ room_answered n (observations body) b room → a ≡ known → Says f t b room (say b known) last
 unfolding judged room_judged unless_refused room_unless room_walked room_answered
-walk_said f t b n room body a known last c p q e g h = (
-  ap (say b) (sym h ∙ e ∙ ap₂ (λ (x : ℕ) (y : List ℕ). answered x (observations y) b (length room)) p q) ∙ answer_said f t b (length room)
-      ∙ ap (λ (x : R.Answer). unless_refused x (walked_in f t b (length room))) (sym c),
-  g ∙ ap₂ (λ (x : ℕ) (y : List ℕ). room_answered x (observations y) b room) p q ∙ ap (λ (x : R.Answer). room_unless x room (room_walked f t b room)) (sym c),
-)
+walk_said f t b n room body a known last c p q e g h = record {
+  result = ap (say b) (sym h ∙ e ∙ ap₂ (λ (x : ℕ) (y : List ℕ). answered x (observations y) b (length room)) p q) ∙ answer_said f t b (length room)
+      ∙ ap (λ (x : R.Answer). unless_refused x (walked_in f t b (length room))) (sym c);
+  room = g ∙ ap₂ (λ (x : ℕ) (y : List ℕ). room_answered x (observations y) b room) p q ∙ ap (λ (x : R.Answer). room_unless x room (room_walked f t b room)) (sym c);
+}
 
 -- ---- the number of events is small
 

@@ -45,13 +45,13 @@ trying n s set body room = tried (service n) (deeper n (length room / 2) s) (cho
 
 -- what is handed back, and what the room then is
 abbrev pub Hands : ℕ → Walked Event → List ℕ → Result Seen Stop → List ℕ → Type 0
-Hands b w room seen last = (seen ≡ left_of b w) × (last ≡ room_after b w room)
+Hands b w room seen last = record { result : seen ≡ left_of b w; room : last ≡ room_after b w room }
 
 module _ (n b set : ℕ) (s : State) (body room : List ℕ) where
   -- nothing to try
   nothing_tried : trying n s set body room ≡ endless 0 → Hands b (trying n s set body room) room (no_end b) room
   unfolding room_after
-  nothing_tried h = (left_none b ∙ ap (left_of b) (sym h), ap (λ (w : Walked Event). room_after b w room) (sym h))
+  nothing_tried h = record { result = left_none b ∙ ap (left_of b) (sym h); room = ap (λ (w : Walked Event). room_after b w room) (sym h) }
 
   pub at_end : length body < 12 → Hands b (trying n s set body room) room (no_end b) room
   at_end h = nothing_tried (none_at_end n (length room / 2) set s body h)
@@ -80,7 +80,7 @@ module _ (n b set : ℕ) (s : State) (body room : List ℕ) where
     hand : (seen : Result Seen Stop) (last : List ℕ) → left_of b (or_else (service n) (event_of p o) child rest) ≡ seen
         → last ≡ room_after b (or_else (service n) (event_of p o) child rest) room → Hands b (trying n s set body room) room seen last
     hand seen last e g =
-        (sym (ap (left_of b) first_then_rest ∙ e), g ∙ ap (λ (w : Walked Event). room_after b w room) (sym first_then_rest))
+        record { result = sym (ap (left_of b) first_then_rest ∙ e); room = g ∙ ap (λ (w : Walked Event). room_after b w room) (sym first_then_rest) }
 
     -- no end comes back: the room is as it was
     hand_endless : (seen : Result Seen Stop) → Endless seen → left_of b (or_else (service n) (event_of p o) child rest) ≡ seen → Hands b (trying n s set body room) room seen room
@@ -150,13 +150,20 @@ module _ (n b set : ℕ) (s : State) (body room : List ℕ) where
           let c = sym child_seen ∙ e in
           let r = same_room (subst Endless (sym e) refl) in
           let w : trying n s others body after_visit ≡ rest = ap₂ (λ (x : ℕ) (y : List ℕ). trying n s x body y) (q ∙ ap (remove 64 set) is_pick) r in
-          hand whole final (step_none n b v.left (event_of p o) child rest c ∙ ap (left_of v.left) (sym w) ∙ sym h.0)
-          (h.1 ∙ ap₂ (room_after v.left) w r ∙ sym (step_none_room n b v.left (event_of p o) child rest room c))
+          hand whole final (step_none n b v.left (event_of p o) child rest c ∙ ap (left_of v.left) (sym w) ∙ sym h.result)
+          (h.room ∙ ap₂ (room_after v.left) w r ∙ sym (step_none_room n b v.left (event_of p o) child rest room c))
 
       pub stopped_on : (stop : Stop) → seen ≡ Err stop → Hands b (trying n s set body room) room (Err stop) after_visit
       stopped_on stop e =
           let g = hand_endless (Err stop) tt (step_stopped n b stop (event_of p o) child rest (sym child_seen ∙ e)) in
-          (g.0, same_room (subst Endless (sym e) tt) ∙ g.1)
+          record { result = g.result; room = same_room (subst Endless (sym e) tt) ∙ g.room }
+
+-- no choice is left after a child without an end, whose answer is handed back
+pub nothing_more : (n set : ℕ) (s : State) (body room : List ℕ) (v : Seen) → v.events ≡ None → set ≡ 0
+    → Hands v.left (trying n s set body room) room (Ok v) room
+nothing_more n set s body room v is_none z =
+    let h = no_choice n v.left set s body room z in
+    record { result = no_end_is v is_none ∙ h.result; room = h.room }
 
 -- ---- events fall at each visit, choices at each further choice
 

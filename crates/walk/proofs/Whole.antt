@@ -96,9 +96,6 @@ by_writes n t w room h e =
 
 -- ---- the answer
 
-abbrev pub Answers : ℕ → Walked Event → List ℕ → Result Told Stop → List ℕ → Type 0
-Answers b w room answer last = (answer ≡ answer_of (cut b w)) × (last ≡ outcome_in (cut b w) room)
-
 -- what is left of the budget, told as an answer
 abbrev pub answer_by : ℕ → Result Seen Stop → Result Told Stop
 answer_by b (Ok s) = Ok (record { points = b - s.left; events = s.events })
@@ -161,16 +158,16 @@ module _ (n budget : ℕ) (body room : List ℕ) (writes_in : ℕ) (counted : wr
   is_depth = ap₂ (λ (t w : ℕ). 2 * (t + n * w)) (observations_length body) (sym counted)
 
   abbrev pub Done : Result Told Stop → List ℕ → Type 0
-  Done answer last = (answer ≡ answered n obs budget (length room)) × (last ≡ room_answered n obs budget room)
+  Done answer last = record { result : answer ≡ answered n obs budget (length room); room : last ≡ room_answered n obs budget room }
 
   pub short : ltb (length room) limit ≡ true → Done (Err NoRoom) room
   unfolding answered room_answered
-  short h = (rw (is_depth, h), rw (is_depth, h))
+  short h = record { result = rw (is_depth, h); room = rw (is_depth, h) }
 
   module _ (enough : ltb (length room) limit ≡ false) where
     done : (answer : Result Told Stop) (last : List ℕ) → answer ≡ answer_of (outcome n obs budget) → last ≡ outcome_in (outcome n obs budget) room → Done answer last
     unfolding answered room_answered
-    done answer last e g = (rw (is_depth, enough) e, rw (is_depth, enough) g)
+    done answer last e g = record { result = rw (is_depth, enough) e; room = rw (is_depth, enough) g }
 
     pub no_budget : budget ≡ 0 → Done (Err Spent) room
     unfolding outcome answer_of outcome_in walk
@@ -205,7 +202,7 @@ module _ (n budget : ℕ) (body room : List ℕ) (writes_in : ℕ) (counted : wr
         let part = take (limit - 0) (drop 0 room) in
         let e = from_first z (an_end (budget - 1) 0) part (end_left n (length part / 2) (budget - 1) (first_state n) body h) (end_room n (length part / 2) (budget - 1) (first_state n) body part h) in
         let one : budget - (budget - 1) ≡ 1 = omega arith in
-        (ap (λ (x : ℕ). first_end x 0) (sym one) ∙ e.0, sym (take-append-drop (limit - 0) room) ∙ e.1)
+        record { result = ap (λ (x : ℕ). first_end x 0) (sym one) ∙ e.result; room = sym (take-append-drop (limit - 0) room) ∙ e.room }
 
     -- the root's choices have been tried
     pub root_tried : (budget ≡ 0 → ⊥) → 12 ≤ length body → (s : State) → s ≡ first_state n → (set : ℕ) → Possible n s (observation_of (record_at body 0)) set → (left : ℕ) → left ≡ budget - 1 → (seen known : Result Seen Stop) (last : List ℕ)

@@ -21,7 +21,7 @@ pub fn possible(n: u8, body: &[u8], state: State) -> u64
     let tablets = events::first(n).fresh;
     let ups = state.dirty & tablets;
     let downs = ((state.fresh | state.dirty) ^ 255) & tablets;
-    let hidden = ((ups as u64) << 1) | ((downs as u64) << 9);
+    let hidden = (u64::from(ups) << 1) | (u64::from(downs) << 9);
     if events::may_observe(n, state, next_observation(body)) {
         hidden | 1
     } else {

@@ -11,7 +11,7 @@ pub returns-in_err-body : goal.returns-in_err-body
 returns-in_err-body c =
     let both = file_refused _ _ c.args.budget c.args.room.now _ c.in_err-body.ensures.refusal in
     let p = err_from_is_err_and c.from_residual.result c.from_residual.ensures.1 in
-    record { result = ap told (p.1 ∙ ap Err p.2) ∙ both.0; room = both.1 }
+    record { result = ap told (p.1 ∙ ap Err p.2) ∙ both.result; room = both.room }
 
 pub bounds-file-1 : goal.bounds-file-1
 bounds-file-1 c = second_byte _ c.args.trace c.in_ok-body.ensures.body.0
@@ -21,20 +21,20 @@ overflow_cast-result c = record { fits = events_small _ _ _ _ _ _ _ _ _ c.in_ok-
 
 pub returns-in-Some : goal.returns-in-Some
 returns-in-Some c =
-    let both = walk_said _ _ _ _ _ _ _ _ _ c.in_ok-body.ensures.body.0 refl c.in_ok-body.ensures.body.1 c.walk.ensures.result c.walk.ensures.room (c.in-Ok.is ∙ first_end_is _ _ c.in-Some.is) in record { result = both.0; room = both.1 }
+    walk_said _ _ _ _ _ _ _ _ _ c.in_ok-body.ensures.body.0 refl c.in_ok-body.ensures.body.1 c.walk.ensures.result c.walk.ensures.room (c.in-Ok.is ∙ first_end_is _ _ c.in-Some.is)
 
 pub returns-in-None : goal.returns-in-None
 returns-in-None c =
-    let both = walk_said _ _ _ _ _ _ _ _ _ c.in_ok-body.ensures.body.0 refl c.in_ok-body.ensures.body.1 c.walk.ensures.result c.walk.ensures.room (c.in-Ok.is ∙ none_in_is _ c.in-None.is) in record { result = both.0; room = both.1 }
+    walk_said _ _ _ _ _ _ _ _ _ c.in_ok-body.ensures.body.0 refl c.in_ok-body.ensures.body.1 c.walk.ensures.result c.walk.ensures.room (c.in-Ok.is ∙ none_in_is _ c.in-None.is)
 
 pub returns-in-Err-Spent : goal.returns-in-Err-Spent
 returns-in-Err-Spent c =
-    let both = walk_said _ _ _ _ _ _ _ _ _ c.in_ok-body.ensures.body.0 refl c.in_ok-body.ensures.body.1 c.walk.ensures.result c.walk.ensures.room (c.in-Err-Spent.is ∙ ap Err c.in-Err-Spent.field-0-is) in record { result = both.0; room = both.1 }
+    walk_said _ _ _ _ _ _ _ _ _ c.in_ok-body.ensures.body.0 refl c.in_ok-body.ensures.body.1 c.walk.ensures.result c.walk.ensures.room (c.in-Err-Spent.is ∙ ap Err c.in-Err-Spent.field-0-is)
 
 pub returns-in-Err-Deep : goal.returns-in-Err-Deep
 returns-in-Err-Deep c =
-    let both = walk_said _ _ _ _ _ _ _ _ _ c.in_ok-body.ensures.body.0 refl c.in_ok-body.ensures.body.1 c.walk.ensures.result c.walk.ensures.room (c.in-Err-Deep.is ∙ ap Err c.in-Err-Deep.field-0-is) in record { result = both.0; room = both.1 }
+    walk_said _ _ _ _ _ _ _ _ _ c.in_ok-body.ensures.body.0 refl c.in_ok-body.ensures.body.1 c.walk.ensures.result c.walk.ensures.room (c.in-Err-Deep.is ∙ ap Err c.in-Err-Deep.field-0-is)
 
 pub returns-in-Err-NoRoom : goal.returns-in-Err-NoRoom
 returns-in-Err-NoRoom c =
-    let both = walk_said _ _ _ _ _ _ _ _ _ c.in_ok-body.ensures.body.0 refl c.in_ok-body.ensures.body.1 c.walk.ensures.result c.walk.ensures.room (c.in-Err-NoRoom.is ∙ ap Err c.in-Err-NoRoom.field-0-is) in record { result = both.0; room = both.1 }
+    walk_said _ _ _ _ _ _ _ _ _ c.in_ok-body.ensures.body.0 refl c.in_ok-body.ensures.body.1 c.walk.ensures.result c.walk.ensures.room (c.in-Err-NoRoom.is ∙ ap Err c.in-Err-NoRoom.field-0-is)

@@ -6,26 +6,26 @@ use mathlib.Core.Path.{ap, ◌∙◌}
 use native.Mathlib.Omega.{arith}
 use Rattle.std.proofs.Common.{Err}
 use Rattle.std.proofs.lemmas.Result.{err_from_is_err_and}
-use Rattle.walk.proofs.Left.{an_end_is, no_end_is}
+use Rattle.walk.proofs.Left.{an_end_is}
 use Rattle.walk.proofs.Visits.{end_left, end_room, visit_left, visit_room}
-use Rattle.walk.proofs.Ways.{at_end, no_choice, budget_spent, no_room, end_found, others_tried, stopped_on, choice_falls, fewer, events_few, part_length, one_event_more, same_after}
+use Rattle.walk.proofs.Ways.{at_end, no_choice, nothing_more, budget_spent, no_room, end_found, others_tried, stopped_on, choice_falls, fewer, events_few, part_length, one_event_more, same_after}
 use Rattle.walk.proofs.+choose_visit.Goals as goal
 
 pub choose-returns-then-body-lt12 : goal.choose-returns-then-body-lt12
 choose-returns-then-body-lt12 t c =
-    let both = at_end _ _ _ _ _ _ c.if-body-lt12.true in record { result = both.0; room = both.1 }
+    at_end _ _ _ _ _ _ c.if-body-lt12.true
 
 pub choose-returns-then-choices-eq0 : goal.choose-returns-then-choices-eq0
 choose-returns-then-choices-eq0 t c =
-    let both = no_choice _ _ _ _ _ _ c.if-choices-eq0.true in record { result = both.0; room = both.1 }
+    no_choice _ _ _ _ _ _ c.if-choices-eq0.true
 
 pub choose-returns-then-left-eq0 : goal.choose-returns-then-left-eq0
 choose-returns-then-left-eq0 t c =
-    let both = budget_spent _ _ _ _ _ _ c.if-body-lt12.false c.ranges.choices.fits c.if-choices-eq0.false (omega arith) in record { result = both.0; room = both.1 }
+    budget_spent _ _ _ _ _ _ c.if-body-lt12.false c.ranges.choices.fits c.if-choices-eq0.false (omega arith)
 
 pub choose-returns-then-room-lt2 : goal.choose-returns-then-room-lt2
 choose-returns-then-room-lt2 t c =
-    let both = no_room _ _ _ _ _ _ c.if-body-lt12.false c.ranges.choices.fits c.if-choices-eq0.false (omega arith) c.if-room-lt2.true in record { result = both.0; room = both.1 }
+    no_room _ _ _ _ _ _ c.if-body-lt12.false c.ranges.choices.fits c.if-choices-eq0.false (omega arith) c.if-room-lt2.true
 
 pub visit-returns-then-body-lt12 : goal.visit-returns-then-body-lt12
 visit-returns-then-body-lt12 t c =
@@ -34,7 +34,7 @@ visit-returns-then-body-lt12 t c =
 pub visit-returns-then-choices-eq0 : goal.visit-returns-then-choices-eq0
 visit-returns-then-choices-eq0 t c =
     let k = no_choice _ _ _ _ _ _ c.if-choices-eq0.true in
-    record { result = k.0 ∙ visit_left _ _ _ _ _ _ c.if-body-lt12.false c.possible-choices.ensures; room = k.1 ∙ visit_room _ _ _ _ _ _ _ c.if-body-lt12.false c.possible-choices.ensures }
+    record { result = k.result ∙ visit_left _ _ _ _ _ _ c.if-body-lt12.false c.possible-choices.ensures; room = k.room ∙ visit_room _ _ _ _ _ _ _ c.if-body-lt12.false c.possible-choices.ensures }
 
 pub visit-returns : goal.visit-returns
 visit-returns t c =
@@ -44,7 +44,7 @@ pub choose-returns-in_err-seen : goal.choose-returns-in_err-seen
 choose-returns-in_err-seen t c =
     let both = stopped_on _ _ _ _ _ c.args.room.now c.if-body-lt12.false c.ranges.choices.fits c.if-choices-eq0.false (omega arith) c.if-room-lt2.false _ _ _ _ _ c.lowest-pick.ensures c.after-next.ensures c.used-skip.ensures c.visit.ensures.result c.visit.ensures.room _ c.in_err-seen.was in
     let p = err_from_is_err_and c.from_residual.result c.from_residual.ensures.1 in
-    record { result = p.1 ∙ ap Err p.2 ∙ both.0; room = both.1 }
+    record { result = p.1 ∙ ap Err p.2 ∙ both.result; room = both.room }
 
 pub choose-overflow_add-result : goal.choose-overflow_add-result
 choose-overflow_add-result t c =
@@ -52,11 +52,11 @@ choose-overflow_add-result t c =
 
 pub choose-returns-in-Some : goal.choose-returns-in-Some
 choose-returns-in-Some t c =
-    let both = end_found _ _ _ _ _ c.args.room.now c.if-body-lt12.false c.ranges.choices.fits c.if-choices-eq0.false (omega arith) c.if-room-lt2.false _ _ _ _ _ c.lowest-pick.ensures c.after-next.ensures c.used-skip.ensures c.visit.ensures.result c.visit.ensures.room _ _ _ c.in_ok-seen.was c.in-Some.is (c.copy_from_slice.ensures.after ∙ c.event_at.ensures) in record { result = both.0; room = both.1 }
+    end_found _ _ _ _ _ c.args.room.now c.if-body-lt12.false c.ranges.choices.fits c.if-choices-eq0.false (omega arith) c.if-room-lt2.false _ _ _ _ _ c.lowest-pick.ensures c.after-next.ensures c.used-skip.ensures c.visit.ensures.result c.visit.ensures.room _ _ _ c.in_ok-seen.was c.in-Some.is (c.copy_from_slice.ensures.after ∙ c.event_at.ensures)
 
 pub choose-returns-then-others-eq0 : goal.choose-returns-then-others-eq0
 choose-returns-then-others-eq0 t c =
-    let both = others_tried _ _ _ _ _ c.args.room.now c.if-body-lt12.false c.ranges.choices.fits c.if-choices-eq0.false (omega arith) c.if-room-lt2.false _ _ _ _ _ c.lowest-pick.ensures c.after-next.ensures c.used-skip.ensures c.visit.ensures.result c.visit.ensures.room _ _ _ _ c.in_ok-seen.was c.in-None.is c.remove-others.ensures (no_end_is _ c.in-None.is ∙ (no_choice _ _ _ _ _ _ c.if-others-eq0.true).0, (no_choice _ _ _ _ _ _ c.if-others-eq0.true).1) in record { result = both.0; room = both.1 }
+    others_tried _ _ _ _ _ c.args.room.now c.if-body-lt12.false c.ranges.choices.fits c.if-choices-eq0.false (omega arith) c.if-room-lt2.false _ _ _ _ _ c.lowest-pick.ensures c.after-next.ensures c.used-skip.ensures c.visit.ensures.result c.visit.ensures.room _ _ _ _ c.in_ok-seen.was c.in-None.is c.remove-others.ensures (nothing_more _ _ _ _ _ _ c.in-None.is c.if-others-eq0.true)
 
 pub choose-choose-requires : goal.choose-choose-requires
 choose-choose-requires t c =
@@ -64,4 +64,4 @@ choose-choose-requires t c =
 
 pub choose-returns-else-others-eq0 : goal.choose-returns-else-others-eq0
 choose-returns-else-others-eq0 t c =
-    let both = others_tried _ _ _ _ _ c.args.room.now c.if-body-lt12.false c.ranges.choices.fits c.if-choices-eq0.false (omega arith) c.if-room-lt2.false _ _ _ _ _ c.lowest-pick.ensures c.after-next.ensures c.used-skip.ensures c.visit.ensures.result c.visit.ensures.room _ _ _ _ c.in_ok-seen.was c.in-None.is c.remove-others.ensures (c.choose.ensures.result, c.choose.ensures.room) in record { result = both.0; room = both.1 }
+    others_tried _ _ _ _ _ c.args.room.now c.if-body-lt12.false c.ranges.choices.fits c.if-choices-eq0.false (omega arith) c.if-room-lt2.false _ _ _ _ _ c.lowest-pick.ensures c.after-next.ensures c.used-skip.ensures c.visit.ensures.result c.visit.ensures.room _ _ _ _ c.in_ok-seen.was c.in-None.is c.remove-others.ensures c.choose.ensures

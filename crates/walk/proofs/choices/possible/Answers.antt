@@ -3,14 +3,12 @@
 use borrow.Author.Rules.{rules}
 use mathlib.Core.Path.{◌≡◌, sym, ap, ◌∙◌}
 use Prim.Native.Nat.{ℕ}
-use native.Mathlib.Nat.{lt_of_lt_of_le}
-use lib.Dec.{lit≤}
 use Rattle.marks.specs.Sets.{full}
 use Rattle.model.specs.Model.{first_state, seats, may}
 use Rattle.model.specs.declared.State.{State}
 use Rattle.model.specs.declared.Observation.{Observation}
 use Rattle.model.specs.declared.Event.TheVariants.{Observed}
-use Rattle.walk.proofs.Bits.{possible_with, possible_without, ups_fit, downs_fit}
+use Rattle.walk.proofs.Bits.{possible_with, possible_without}
 use Rattle.walk.proofs.choices.possible.Goals as goal
 
 -- in the first state every tablet is fresh
@@ -18,22 +16,14 @@ all_fresh : (n : ℕ) (s : State) → s ≡ first_state n → s.fresh ≡ full (
 unfolding first_state
 all_fresh n s e = ap (λ (x : State). x.fresh) e
 
-pub overflow_cast-hidden : goal.overflow_cast-hidden
-overflow_cast-hidden c =
-    rw (all_fresh _ _ c.first-tablets.ensures) (record { fits = lt_of_lt_of_le (ups_fit c.args.n c.args.state (search rules) (search rules)) (lit≤ tt) })
-
-pub overflow_cast-hidden-2 : goal.overflow_cast-hidden-2
-overflow_cast-hidden-2 c =
-    rw (all_fresh _ _ c.first-tablets.ensures) (record { fits = lt_of_lt_of_le (downs_fit c.args.n c.args.state (search rules) (search rules)) (lit≤ tt) })
-
 pub returns-then-may_observe : goal.returns-then-may_observe
 returns-then-may_observe c =
-    rw (all_fresh _ _ c.first-tablets.ensures)
+    rw (c.from.ensures, c.from-2.ensures, all_fresh _ _ c.first-tablets.ensures)
     (possible_with c.args.n c.args.state (search rules) (search rules) _
     (ap (λ (o : Observation). may c.args.n c.args.state (Observed o)) (sym c.next_observation.ensures) ∙ sym c.may_observe.ensures ∙ c.if-may_observe.true))
 
 pub returns-else-may_observe : goal.returns-else-may_observe
 returns-else-may_observe c =
-    rw (all_fresh _ _ c.first-tablets.ensures)
+    rw (c.from.ensures, c.from-2.ensures, all_fresh _ _ c.first-tablets.ensures)
     (possible_without c.args.n c.args.state (search rules) (search rules) _
     (ap (λ (o : Observation). may c.args.n c.args.state (Observed o)) (sym c.next_observation.ensures) ∙ sym c.may_observe.ensures ∙ c.if-may_observe.false))
