@@ -92,9 +92,8 @@ pub fn check_contents(file: &[u8]) -> Result<(), Refusal>
         let entry = entry_at(i);
         let count = u32::from(number2(file, entry + 2));
         let next = at + 12 * count;
-        if (u32::from(number2(file, entry)) != at)
-            | ((256 < count) | (file.len() < next as usize))
-        {
+        let offset = u32::from(number2(file, entry));
+        if offset != at || 256 < count || file.len() < next as usize {
             return Err(Refusal::Contents(entry));
         }
         at = next;

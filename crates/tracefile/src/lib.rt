@@ -30,6 +30,7 @@ pub struct Numbered {
     pub place: u32,
 }
 
+// The number and the place of a refusal.
 impl From<Refusal> for Numbered {
     ghost from_gives = { λ refusal numbered. refused numbered.number numbered.place ≡ refusal_of refusal };
 
