@@ -32,6 +32,8 @@ pub entries_end : (counts : List ℕ) (i at : ℕ) → length counts ≤ i → e
 unfolding entries_of
 entries_end counts i at h = rw (drop_of_length-le counts h)
 
+pub ruleset entering = (sum_on, entries_on, entries_end)
+
 -- an entry has 4 bytes
 pub length_entries : (at : ℕ) (counts : List ℕ) → length (entries_of at counts) ≡ 4 * length counts
 unfolding entries_of
@@ -82,8 +84,8 @@ pub finished : (n v : ℕ) (counts records buffer b copied : List ℕ) (size : �
     → put_mid (entry (length counts)) (size - entry (length counts)) b copied ≡ buffer_after (file_of n v counts records) buffer (wrote size)
 unfolding file_of buffer_after
 finished n v counts records buffer b copied size whole before behind copy =
-    let all : entry (length counts) + (size - entry (length counts)) ≡ size = omega arith in
+    let k = entry (length counts) in
+    let all : k + (size - k) ≡ size = omega arith in
+    let rest : drop (size - k) (drop k buffer) ≡ drop size buffer = drop-drop (size - k) k buffer ∙ ap (λ (x : ℕ). drop x buffer) all in
     rw (before, behind, copy)
-    (ap (λ (l : List ℕ). front n v counts ++ (records ++ l)) (drop-drop (size - entry (length counts)) (entry (length counts)) buffer ∙ ap (λ (k : ℕ). drop k buffer) all) ∙ sym (append_assoc (front n v counts) records (drop size buffer)))
-
-pub ruleset entering = (sum_on, entries_on, entries_end)
+    (ap (λ (l : List ℕ). front n v counts ++ (records ++ l)) rest ∙ sym (append_assoc (front n v counts) records (drop size buffer)))

@@ -1,7 +1,7 @@
 -- Counts against record bytes, count by count: whether some count is over 256 or the bytes are not 12 times the sum, asked
 -- of what is left of both.
 -- Assumes nothing.
-use mathlib.Core.Bool.{Bool, not, ◌||◌, or-true, or_assoc}
+use mathlib.Core.Bool.{Bool, false, not, ◌||◌, or-true, or_assoc}
 use mathlib.Core.List.{List, ◌∷◌}
 use mathlib.Core.Path.{◌≡◌, sym, ◌∙◌}
 use Prim.Native.Nat.{ℕ, suc, ◌+◌, ◌*◌, ◌-◌, ◌≤◌, ◌<◌}
@@ -34,17 +34,17 @@ pub counts_on : (counts : List ℕ) (i left : ℕ) → i < length counts
     ≡ (ltb most (get_or counts i 0) || (ltb left (record_size * get_or counts i 0) || wrong (drop (i + 1) counts) (left - record_size * get_or counts i 0)))
 unfolding over sum
 counts_on counts i left here =
+    let rest = drop (suc i) counts in
+    let count = get_or counts i 0 in
     rw (add-one, drop-cons counts i 0 here)
-    (elim (dec_lt left (record_size * get_or counts i 0)) [
+    (elim (dec_lt left (record_size * count)) [
       | yes h ↦
-          rw (ne_eqb left (record_size * (get_or counts i 0 + sum (drop (suc i) counts))) (λ e. omega arith), lt-ltb left (record_size * get_or counts i 0) h, or-true (over (get_or counts i 0 ∷ drop (suc i) counts)), or-true (ltb most (get_or counts i 0)))
+          (let longer : eqb left (record_size * (count + sum rest)) ≡ false = ne_eqb _ _ (λ e. omega arith) in
+          rw (longer, lt-ltb left (record_size * count) h, or-true (over (count ∷ rest)), or-true (ltb most count)))
       | no h ↦
-          rw (
-            alike left (record_size * (get_or counts i 0 + sum (drop (suc i) counts))) (left - record_size * get_or counts i 0) (record_size * sum (drop (suc i) counts))
-                (λ e. omega arith) (λ e. omega arith),
-            le-ltb left (record_size * get_or counts i 0) (omega arith),
-          )
-          (or_assoc (ltb most (get_or counts i 0)) (over (drop (suc i) counts)) _)
+          (let same : eqb left (record_size * (count + sum rest)) ≡ eqb (left - record_size * count) (record_size * sum rest) =
+          alike _ _ _ _ (λ e. omega arith) (λ e. omega arith) in
+          rw (same, le-ltb left (record_size * count) (omega arith)) (or_assoc (ltb most count) (over rest) _))
     ])
 
 -- with no count left no bytes may be left
