@@ -25,7 +25,7 @@ pub fn seat_of(tablet: u8) -> u8
 pub fn tablet_of(n: u8, tablet: u8) -> bool
     ensures { result ≡ is_tablet n tablet }
 {
-    (1 <= tablet) & (tablet <= seats_of(n))
+    (1..=seats_of(n)).contains(&tablet)
 }
 
 // The local value of a tablet.
@@ -33,15 +33,15 @@ pub fn tablet_of(n: u8, tablet: u8) -> bool
 pub fn local_value(local: [u8; 8], tablet: u8) -> u8
     ensures { result ≡ value_at local tablet }
 {
-    let at = seat_of(tablet) as usize;
-    if at < 8 { local[at] } else { 0 }
+    let at = usize::from(seat_of(tablet));
+    local.get(at).copied().unwrap_or(0)
 }
 
 // The local values with a tablet's put in its place. A number that is no tablet's changes nothing.
 pub fn stored(local: [u8; 8], tablet: u8, value: u8) -> [u8; 8]
     ensures { result ≡ set local (seat tablet) value }
 {
-    let at = seat_of(tablet) as usize;
+    let at = usize::from(seat_of(tablet));
     let mut values = local;
     if at < 8 {
         values[at] = value;
