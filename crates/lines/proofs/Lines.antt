@@ -1,7 +1,7 @@
 -- Pieces put in a line one after the other make one piece; and the line that is made.
 -- Assumes nothing.
 use mathlib.Core.List.{List, [], ◌++◌, append_assoc}
-use mathlib.Core.Path.{◌≡◌, refl, sym, ◌∙◌}
+use mathlib.Core.Path.{◌≡◌, refl, ◌∙◌}
 use Prim.Native.Nat.{ℕ, ◌≤◌}
 use lib.Dec.{ltb}
 use lib.ListN.{length}
@@ -42,9 +42,6 @@ once_put first rest p = record { puts = λ n q. then_puts p q }
 -- and after one more
 pub one_more : (first rest : List ℕ) {whole : List ℕ} {l m n : Line} → Completes (first ++ rest) whole l m → Puts first m n → Completes rest whole l n
 one_more first rest r p = record { puts = λ n q. r.puts n (then_puts p q) }
-
-pub completes_as : {rest same whole : List ℕ} {l m : Line} → rest ≡ same → Completes rest whole l m → Completes same whole l m
-completes_as e r = record { puts = λ n q. r.puts n (puts_as (sym e) q) }
 
 -- ---- a line that is made
 

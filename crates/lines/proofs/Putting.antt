@@ -106,12 +106,6 @@ then_put first second out between at middle next last p q = λ fits.
 pub put_as : {text same : List ℕ} (out : List ℕ) (at next : ℕ) (last : List ℕ) → text ≡ same → Put text out at next last → Put same out at next last
 put_as out at next last e p = subst (λ (t : List ℕ). Put t out at next last) e p
 
--- a third after two
-pub after_put : (first second third out between : List ℕ) (at middle next : ℕ) (last : List ℕ)
-    → Put (first ++ second) out at middle between → Put third between middle next last → Put (first ++ (second ++ third)) out at next last
-after_put first second third out between at middle next last p q =
-    put_as out at next last (append_assoc first second third) (then_put (first ++ second) third out between at middle next last p q)
-
 -- ---- a whole line
 
 abbrev pub Whole : ℕ → List ℕ → List ℕ → ℕ → List ℕ → Type 0

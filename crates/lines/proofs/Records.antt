@@ -2,11 +2,9 @@
 -- Assumes nothing.
 use mathlib.Core.List.{List, ◌++◌}
 use mathlib.Core.Path.{◌≡◌, refl, ap, ◌∙◌}
-use Prim.Native.Nat.{ℕ, zero, suc, ◌≤◌}
-use native.Mathlib.Omega.{arith}
-use borrow.Author.Tests.{ne_eqb}
+use Prim.Native.Nat.{ℕ}
 use lib.Dec.{eqb}
-use mathlib.Core.Bool.{cond}
+use mathlib.Core.Bool.{Bool, true, false, cond}
 use Rattle.std.specs.Prelude.{Result, Ok, Err}
 use Rattle.model.specs.declared.Kind.{Kind}
 use Rattle.model.specs.declared.Kind.TheVariants.{Read, Write, Stabilize, Failed, Up, Down}
@@ -32,18 +30,19 @@ choice read write stabilize other (Err e) = other
 
 module _ (read write stabilize other : List ℕ) where
   chosen : (kind : ℕ) → choice read write stabilize other (kind_of kind) ≡ cond (eqb kind 1) read (cond (eqb kind 2) write (cond (eqb kind 3) stabilize other))
-  chosen zero = refl
-  chosen (suc zero) = refl
-  chosen (suc (suc zero)) = refl
-  chosen (suc (suc (suc zero))) = refl
-  chosen (suc (suc (suc (suc zero)))) = refl
-  chosen (suc (suc (suc (suc (suc zero))))) = refl
-  chosen (suc (suc (suc (suc (suc (suc zero)))))) = refl
-  chosen (suc (suc (suc (suc (suc (suc (suc more))))))) = none (suc (suc (suc (suc (suc (suc (suc more))))))) (omega arith)
+  chosen kind = go (eqb kind 1) (eqb kind 2) (eqb kind 3) (eqb kind 4) (eqb kind 5) (eqb kind 6)
     where
-      none : (kind : ℕ) → 7 ≤ kind → choice read write stabilize other (kind_of kind) ≡ cond (eqb kind 1) read (cond (eqb kind 2) write (cond (eqb kind 3) stabilize other))
-      none kind h =
-          rw (ne_eqb kind 1 (λ e. omega arith), ne_eqb kind 2 (λ e. omega arith), ne_eqb kind 3 (λ e. omega arith), ne_eqb kind 4 (λ e. omega arith), ne_eqb kind 5 (λ e. omega arith), ne_eqb kind 6 (λ e. omega arith))
+      go : (a b c d e f : Bool)
+          → choice read write stabilize other
+          (cond a (Ok Read) (cond b (Ok Write) (cond c (Ok Stabilize) (cond d (Ok Failed) (cond e (Ok Up) (cond f (Ok Down) (Err (record { 0 = kind }))))))))
+          ≡ cond a read (cond b write (cond c stabilize other))
+      go true b c d e f = refl
+      go false true c d e f = refl
+      go false false true d e f = refl
+      go false false false true e f = refl
+      go false false false false true f = refl
+      go false false false false false true = refl
+      go false false false false false false = refl
 
 abbrev text_by : Record → Result Kind UnknownKind → List ℕ
 text_by r =

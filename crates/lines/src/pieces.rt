@@ -59,6 +59,7 @@ impl<'a> Line<'a> {
     }
 
     // Puts some words and then a number.
+    #[tactic(auto, using(crate::proofs::Lines::then_puts))]
     pub fn put_number(&mut self, words: &[u8], number: u32)
         ensures { Puts (words.now ++ decimal number) self.old self.new }
     {
@@ -67,6 +68,7 @@ impl<'a> Line<'a> {
     }
 
     // Puts some words and a number, and ends the line.
+    #[tactic(auto, using(crate::proofs::Lines::after_number))]
     pub fn put_last(&mut self, words: &[u8], number: u32)
         ensures { Puts (words.now ++ (decimal number ++ line_end)) self.old self.new }
     {
@@ -76,7 +78,7 @@ impl<'a> Line<'a> {
 
     // Puts the letter of an event and its tablet's digit; of a tablet above 9, the last one.
     fn put_at(&mut self, letter: u8, tablet: u8)
-        ensures { Puts ((letter ∷ []) ++ (digit tablet ∷ [])) self.old self.new }
+        ensures { Puts (letter ∷ digit tablet ∷ []) self.old self.new }
     {
         self.put_byte(letter);
         self.put_byte(b'0' + tablet % 10)
