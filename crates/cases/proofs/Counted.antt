@@ -3,15 +3,19 @@
 use mathlib.Core.Bool.{Bool, true, false, cond}
 use mathlib.Core.List.{List, [], ◌∷◌, ◌++◌}
 use mathlib.Core.Path.{◌≡◌, sym, ap, ap₂, ◌∙◌}
-use Prim.Native.Nat.{ℕ, ◌+◌, ◌≤◌, ◌<◌}
+use Prim.Native.Nat.{ℕ, ◌+◌, ◌≤◌}
 use native.Mathlib.Nat.{zero-add}
 use native.Mathlib.Omega.{arith}
 use lib.ListN.{length}
-use Rattle.std.specs.Prelude.{Option, is_some, count_by}
+use Rattle.std.specs.Prelude.{Option, Some, is_some, count_by}
+use Rattle.std.specs.Iterator.{Yields, YieldsFirstBy}
+use Rattle.std.proofs.lemmas.Iterator.Consumers.{YieldsList-from_first, YieldsList-turn}
 use Rattle.std.specs.List.{AllZip}
 use Rattle.std.proofs.lemmas.List.Sums.{sum_by-append, count_by-le-length}
 use Rattle.std.proofs.lemmas.Slice.Zip.{AllZip-long}
 use Rattle.cases.specs.declared.Case.{Case}
+use Rattle.cases.specs.declared.Cases.{Cases}
+use Rattle.cases.specs.Seen.{packed_of, cases_left}
 use Rattle.cases.specs.declared.Tally.{Tally}
 use Rattle.cases.specs.Packed.{cases_in}
 use Rattle.cases.specs.Tallied.{Comes, differs}
@@ -47,13 +51,17 @@ one_at_most : (b : Bool) → one b ≤ 1
 one_at_most true = omega arith
 one_at_most false = omega arith
 
--- with the next one, no more are counted than there are bytes
-pub fits_one_more : {gives : Case → Option Bool → Type 0} {cases : List Case} {tally : Tally} (packed : List ℕ) (b : Bool) (n : ℕ)
-    → Comes gives cases tally → length cases < length (cases_in packed) → n ≡ one b → (tally.cases + n ≤ length packed) × (tally.differ + n ≤ length packed)
-fits_one_more {tally = tally} packed b n h l e =
+-- with the next case, no more are counted than there are bytes
+pub fits_next : {gives : Case → Option Bool → Type 0} {cases : List Case} {tally : Tally} (packed : List ℕ) (b : Bool) (n : ℕ)
+    (all left after : Cases) (step : Option Case) (case : Case)
+    → cases_left all ≡ cases_in packed → Yields (YieldsFirstBy packed_of cases_left) all cases left
+    → step ≡ Some case → YieldsFirstBy packed_of cases_left left step after → Comes gives cases tally → n ≡ one b
+    → (tally.cases + n ≤ length packed) × (tally.differ + n ≤ length packed)
+fits_next {cases = cases} {tally = tally} packed b n all left after step case f y e s h o =
+    let turn = YieldsList-turn (YieldsList-from_first packed_of cases_left (cases_in packed) f) cases left y step after case e s in
     let long = AllZip-long _ _ _ h.each in
     let asked = ap (λ (t : Tally). t.cases) h.come_to in
     let other = ap (λ (t : Tally). t.differ) h.come_to in (
-      omega (arith, count_by-le-length is_some h.answers, no_more_cases packed, one_at_most b),
-      omega (arith, count_by-le-length differs h.answers, no_more_cases packed, one_at_most b),
+      omega (arith, turn.0, count_by-le-length is_some h.answers, no_more_cases packed, one_at_most b),
+      omega (arith, turn.0, count_by-le-length differs h.answers, no_more_cases packed, one_at_most b),
     )

@@ -35,6 +35,7 @@ impl<'a> Case<'a> {
     }
 
     // The number in the four bytes at a place.
+    #[tactic(auto, using(crate::proofs::Packed::number_here, crate::proofs::Packed::no_number))]
     pub fn number(self, at: usize) -> u32
         ensures { result ≡ number_at self.entry.packed.now at }
     {
@@ -47,6 +48,7 @@ impl<'a> Case<'a> {
     }
 
     // The part of so many bytes at a place.
+    #[tactic(auto, using(crate::proofs::Packed::part_here, crate::proofs::Packed::no_part))]
     pub fn part(self, start: usize, length: usize) -> &'a [u8]
         ensures { result.now ≡ part_at self.entry.packed.now start length }
     {
@@ -59,6 +61,7 @@ impl<'a> Case<'a> {
     }
 
     // The part whose start and length stand at a place of the head.
+    #[tactic(auto, using(crate::proofs::Packed::none_held), unfolding(crate::specs::Packed::held_at))]
     pub fn held(self, at: usize) -> &'a [u8]
         ensures { result.now ≡ held_at self.entry.packed.now at }
     {
@@ -84,6 +87,7 @@ impl<'a> Iterator for Cases<'a> {
 
     ghost remaining = { item_count cases_left };
 
+    #[tactic(auto, using(crate::proofs::Sequence::first_case, crate::proofs::Sequence::no_case))]
     fn next(&mut self) -> Option<Case<'a>> {
         let length = Case { packed: self.rest }.number(0) as usize;
         if length == 0 || self.rest.len() < length {
@@ -96,6 +100,7 @@ impl<'a> Iterator for Cases<'a> {
 }
 
 // Whether bytes start with those at the front, and have the pattern in every byte after them.
+#[tactic(auto, using(crate::proofs::Packed::begins_otherwise))]
 pub fn stands(front: &[u8], bytes: &[u8]) -> bool
     ensures { result ≡ stands_in front.now bytes.now }
 {
