@@ -15,7 +15,7 @@ use Rattle.tracefile.specs.Refusals.{Answer, accepted, refused, refusal, and_the
 use Rattle.tracefile.specs.File.{tablets_in, values_in, bodies_in, outside, entry, offset_in, count_in, body_size, head, bad_entry, entries, contents, records, check, check_trace, part, asked}
 use Rattle.tracefile.specs.declared.Refusal.{Refusal}
 use Rattle.tracefile.specs.declared.Refusal.TheVariants.{Length, Edition, Tablets, Values, Bodies, Contents, BadRecord, Trace}
-use Rattle.tracefile.proofs.Loops.{or_false}
+use Rattle.std.proofs.lemmas.Bool.{or_parts}
 
 -- where two checks accept, so does each
 pub both : (a b : Answer) → and_then a b ≡ accepted → (a ≡ accepted) × (b ≡ accepted)
@@ -30,7 +30,7 @@ passed false k p next h = (refl, h)
 -- a number that is not outside is inside
 pub inside : (low high x : ℕ) → outside low high x ≡ false → (low ≤ x) × (x ≤ high)
 inside low high x h =
-    let r = or_false (ltb x low) (ltb high x) h in
+    let r = or_parts (ltb x low) (ltb high x) h in
     (ltb-false x low r.0, ltb-false high x r.1)
 
 -- ---- the head
@@ -72,8 +72,8 @@ pub record Entry (f : List ℕ) (i at : ℕ) : Type 0 where
 pub good_entry : (f : List ℕ) (i at : ℕ) → bad_entry f i at ≡ false → Entry f i at
 unfolding bad_entry
 good_entry f i at h =
-    let a = or_false (not (eqb (offset_in f i) at)) _ h in
-    let b = or_false (ltb 256 (count_in f i)) _ a.1 in
+    let a = or_parts (not (eqb (offset_in f i) at)) _ h in
+    let b = or_parts (ltb 256 (count_in f i)) _ a.1 in
     record {
       offset = eqb-true (offset_in f i) at (not-false (eqb (offset_in f i) at) a.0);
       few = ltb-false 256 (count_in f i) b.0;

@@ -1,6 +1,6 @@
 -- The checks of a file as their loops go: one entry after the other, one body after the other, one record after the other.
 -- Assumes nothing.
-use mathlib.Core.Bool.{Bool, true, false, cond, not, ◌||◌}
+use mathlib.Core.Bool.{cond, not, ◌||◌}
 use mathlib.Core.List.{List}
 use mathlib.Core.Path.{◌≡◌, refl, ap}
 use Prim.Native.Nat.{ℕ, suc, ◌+◌, ◌-◌, ◌*◌, ◌<◌}
@@ -13,10 +13,6 @@ use Rattle.tracefile.specs.Refusals.{Answer, accepted, refused, refusal, and_the
 use Rattle.tracefile.specs.declared.Refusal.{Refusal}
 use Rattle.tracefile.specs.declared.Refusal.TheVariants.{Length, Edition, Tablets, Values, Bodies, Contents, BadRecord, Trace}
 use Rattle.tracefile.specs.File.{offset_in, count_in, body_size, bad_entry, entries, in_body, in_bodies}
-
-pub or_false : (a b : Bool) → (a || b) ≡ false → (a ≡ false) × (b ≡ false)
-or_false true b h = let z : ◌≡◌ {A = ℕ} 0 1 = cc in absurd (omega arith)
-or_false false b h = (refl, h)
 
 -- one more is left
 one_more : (k i : ℕ) → i < k → k - i ≡ suc (k - (i + 1))

@@ -10,7 +10,7 @@ use native.Mathlib.Omega.{arith}
 use lib.Dec.{ltb}
 use lib.ListN.{length, drop, length-drop}
 use lib.Pow.{are_bytes}
-use Rattle.model.proofs.Sound.{and_true}
+use Rattle.std.proofs.lemmas.Bool.{and_parts}
 use borrow.Author.Tests.{le-ltb, eq-eqb, ltb-false, ltb-true}
 use Rattle.records.specs.Bytes.{byte, number}
 use Rattle.records.specs.Records.{record_at, keeps_row}
@@ -201,5 +201,5 @@ module _ (f : List ℕ) (b : Bytes f) (h : check f ≡ accepted) where
 -- a list that is tested byte by byte is one of bytes
 pub bytes : (f : List ℕ) → are_bytes f ≡ true → Bytes f
 bytes [] t i = omega arith
-bytes (x ∷ f) t zero = ltb-true x 256 (and_true (ltb x 256) (are_bytes f) t).0
-bytes (x ∷ f) t (suc i) = bytes f (and_true (ltb x 256) (are_bytes f) t).1 i
+bytes (x ∷ f) t zero = ltb-true x 256 (and_parts (ltb x 256) (are_bytes f) t).0
+bytes (x ∷ f) t (suc i) = bytes f (and_parts (ltb x 256) (are_bytes f) t).1 i

@@ -12,7 +12,7 @@ use lib.ListN.{length}
 use borrow.Author.Tests.{ltb-false, eqb-true, not-false}
 use Rattle.records.specs.Records.{record_at, keeps_row}
 use Rattle.tracefile.specs.File.{most, record_size, outside}
-use Rattle.tracefile.proofs.Loops.{or_false}
+use Rattle.std.proofs.lemmas.Bool.{or_parts}
 use Rattle.tracefile.proofs.Good.{inside}
 use Rattle.writer.specs.declared.Unwritten.{Unwritten}
 use Rattle.writer.specs.declared.Unwritten.TheVariants.{Tablets, Values, Bodies, Counts, BadRecord, Room}
@@ -34,7 +34,7 @@ sum_few (count ∷ counts) o =
 pub counted : (counts : List ℕ) (bytes : ℕ) → length counts ≤ 16 → wrong counts bytes ≡ false
     → (bytes ≡ record_size * sum counts) × (bytes ≤ record_size * (16 * most))
 counted counts bytes bodies e =
-    let both = or_false (over counts) (not (eqb bytes (record_size * sum counts))) e in
+    let both = or_parts (over counts) (not (eqb bytes (record_size * sum counts))) e in
     let all : bytes ≡ record_size * sum counts = eqb-true _ _ (not-false _ both.1) in
     (all, omega (arith, sum_few counts both.0))
 
@@ -83,7 +83,7 @@ accepts n v counts rs room size h =
     let b = passed (outside 1 64 v) 4 0 size _ a.1 in
     let c = passed (outside 1 16 (length counts)) 5 0 size _ b.1 in
     let d = passed (over counts || not (eqb (length rs) (12 * sum counts))) 6 0 size _ c.1 in
-    let e = or_false (over counts) (not (eqb (length rs) (12 * sum counts))) d.0 in
+    let e = or_parts (over counts) (not (eqb (length rs) (12 * sum counts))) d.0 in
     let r = rows_kept n v rs (length rs / 12) 0 size (fitted counts rs room) d.1 in
     let g = passed (ltb room (file_size counts rs)) 9 0 size (wrote (file_size counts rs)) r.1 in
     let s = g.1 in

@@ -13,7 +13,7 @@ use borrow.Author.Tests.{le-ltb, eq-eqb, ltb-false}
 use Rattle.records.specs.Bytes.{byte, number}
 use Rattle.records.specs.Records.{record_at, keeps_row}
 use Rattle.records.proofs.Numbers.{number_2}
-use Rattle.tracefile.proofs.Loops.{or_false}
+use Rattle.std.proofs.lemmas.Bool.{or_parts}
 use Rattle.tracefile.specs.Refusals.{Answer, accepted, refused}
 use Rattle.tracefile.specs.File.{tablets_in, values_in, entry, offset_in, count_in, body_size, bad_entry, entries, in_body, in_bodies}
 use Rattle.writer.specs.Written.{entries_of, two_bytes, sum, over}
@@ -62,7 +62,7 @@ first_entry f i at count counts rest h k e =
 pub few : (count : ℕ) (counts : List ℕ) → over (count ∷ counts) ≡ false → (count ≤ 256) × (over counts ≡ false)
 unfolding over
 few count counts h =
-    let r = or_false (ltb 256 count) (over counts) h in
+    let r = or_parts (ltb 256 count) (over counts) h in
     (ltb-false 256 count r.0, r.1)
 
 -- the entries are accepted
