@@ -4,13 +4,13 @@ use mathlib.Core.Bool.{Bool, true, false, cond}
 use mathlib.Core.List.{List, [], ◌∷◌, ◌++◌, append_assoc}
 use mathlib.Core.Path.{◌≡◌, refl, sym, ap, ap₂, ◌∙◌}
 use Prim.Native.Nat.{ℕ, suc, ◌+◌, ◌-◌, ◌*◌, ◌≤◌, ◌<◌}
-use native.Mathlib.Decide.{dec_le}
 use native.Mathlib.Omega.{arith}
+use Rattle.std.proofs.lemmas.Bool.Decides.{nat_tests}
 use Rattle.std.proofs.Common.{Option, Some, None, Result, Ok, Err}
 use lib.Dec.{leb, ltb}
 use lib.ListN.{length, take, drop}
 use lib.Seq.{drop-drop}
-use borrow.Author.Tests.{le-leb, lt-leb, lt-ltb, le-ltb, leb-true, leb-false}
+use borrow.Author.Tests.{lt-leb, lt-ltb, le-ltb, leb-true, leb-false}
 use Rattle.model.specs.Walk.{Walked, found, endless, stopped, after, or_else}
 use Rattle.model.specs.Model.{service}
 use Rattle.model.specs.declared.Event.{Event}
@@ -22,18 +22,10 @@ use Rattle.walk.specs.declared.Stop.TheVariants.{Spent, Deep}
 -- ---- the tests on counts
 
 one_more : (k b : ℕ) → leb (1 + k) (b + 1) ≡ leb k b
-one_more k b =
-    elim (dec_le k b) [
-      | yes h ↦ le-leb (1 + k) (b + 1) (omega arith) ∙ sym (le-leb k b h)
-      | no h ↦ lt-leb (1 + k) (b + 1) (omega arith) ∙ sym (lt-leb k b (omega arith))
-    ]
+one_more k b = grind (arith, nat_tests)
 
 one_more_below : (k b : ℕ) → ltb (1 + k) (b + 1) ≡ ltb k b
-one_more_below k b =
-    elim (dec_le (suc k) b) [
-      | yes h ↦ lt-ltb (1 + k) (b + 1) (omega arith) ∙ sym (lt-ltb k b h)
-      | no h ↦ le-ltb (1 + k) (b + 1) (omega arith) ∙ sym (le-ltb k b (omega arith))
-    ]
+one_more_below k b = grind (arith, nat_tests)
 
 same_left : (k b : ℕ) → b + 1 - (1 + k) ≡ b - k
 same_left k b = omega arith
@@ -126,18 +118,10 @@ module _ (n : ℕ) where
   none_is b l (stopped j) h = absurd (neither (ltb j b) (Err Deep) (Err Spent) (no_end l) (λ e. cc) (λ e. cc) h)
 
   shift : (k j b : ℕ) → k ≤ b → leb (k + j) b ≡ leb j (b - k)
-  shift k j b h =
-      elim (dec_le (k + j) b) [
-        | yes g ↦ le-leb (k + j) b g ∙ sym (le-leb j (b - k) (omega arith))
-        | no g ↦ lt-leb (k + j) b (omega arith) ∙ sym (lt-leb j (b - k) (omega arith))
-      ]
+  shift k j b h = grind (arith, nat_tests)
 
   shift_below : (k j b : ℕ) → k ≤ b → ltb (k + j) b ≡ ltb j (b - k)
-  shift_below k j b h =
-      elim (dec_le (suc (k + j)) b) [
-        | yes g ↦ lt-ltb (k + j) b g ∙ sym (lt-ltb j (b - k) (omega arith))
-        | no g ↦ le-ltb (k + j) b (omega arith) ∙ sym (le-ltb j (b - k) (omega arith))
-      ]
+  shift_below k j b h = grind (arith, nat_tests)
 
   regroup : (b k j : ℕ) → b - (k + j) ≡ b - k - j
   regroup b k j = omega arith

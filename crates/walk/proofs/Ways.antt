@@ -178,11 +178,6 @@ fewer set pick rest b h p r =
     let l : 0 < set = omega arith in
     rw (r, p) (remove_less 64 set (lowest 64 set) (lowest_below 64 set b l) (has_lowest 64 set b l))
 
--- a skip is within a body of 12 bytes
-pub skip_within : (skip : ℕ) (t : Bool) (len : ℕ) → skip ≡ cond t 12 0 → 12 ≤ len → skip ≤ len
-skip_within skip true len e h = rw e h
-skip_within skip false len e h = rw e (omega arith)
-
 -- the number of events is that of a room's pairs at most
 pub events_few : (n d b l k : ℕ) (s : State) (obs : List Observation) (seen : Result Seen Stop) → seen ≡ left_of b (walked (service n) d s obs) → seen ≡ an_end l k → k ≤ d
 unfolding left_of
@@ -201,9 +196,6 @@ events_few n d b l k s obs seen e g = go (walked (service n) d s obs) refl (sym 
 
 pub part_length : (xs : List ℕ) (a : ℕ) → length (take (length xs - a) (drop a xs)) ≡ length xs - a
 part_length xs a = ap length (to_end xs a) ∙ length-drop a xs
-
-pub written_within : (i n m : ℕ) → n ≡ m → 2 ≤ m → i < 2 → i < n
-written_within i n m e h l = omega arith
 
 pub one_event_more : (k x y : ℕ) → k ≤ x / 2 → x ≡ y - 2 → y < 2 ^ 64 → k + 1 < 2 ^ 64
 one_event_more k x y h e l = omega arith

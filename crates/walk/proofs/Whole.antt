@@ -4,8 +4,7 @@ use mathlib.Core.Bool.{Bool, true, false, cond}
 use mathlib.Core.List.{List, ◌∷◌, ◌++◌, append_assoc}
 use mathlib.Core.Path.{◌≡◌, refl, sym, ap, ap₂, ◌∙◌, subst}
 use Prim.Native.Nat.{ℕ, zero, suc, ◌+◌, ◌-◌, ◌*◌, ◌/◌, ◌≤◌, ◌<◌}
-use native.Mathlib.Nat.{mul-zero, div-lt_iff_lt-mul, zero-add}
-use native.Mathlib.Decide.{dec_lt}
+use native.Mathlib.Nat.{zero-add}
 use native.Mathlib.Omega.{arith}
 use Rattle.std.proofs.Common.{Result, Ok, Err}
 use Rattle.std.specs.List.{count_by}
@@ -14,7 +13,7 @@ use Rattle.std.specs.Simd.{first_chunks}
 use lib.Dec.{leb, ltb}
 use lib.ListN.{length, take, drop, length-drop, take-append-drop}
 use lib.Seq.{drop-append-le, length-take-le}
-use borrow.Author.Tests.{le-leb, lt-ltb, le-ltb, ltb-false, leb-true}
+use borrow.Author.Tests.{le-leb, ltb-false, leb-true}
 use Rattle.model.specs.Walk.{Walked, found, endless, stopped, tried, walked, Outcome, explained, unexplained, undecided, too_deep, cut}
 use Rattle.model.specs.Model.{service, first_state, writes, depth, walk, outcome}
 use Rattle.model.proofs.Sound.{found_within, some_point}
@@ -69,30 +68,6 @@ writes_counted (suc k) body h =
     (ap (λ (r : Record). is_write (observation_of r)) (record_part body 0 (le-leb 12 (length body) (omega arith))))
     (writes_counted k (drop 12 body) (omega arith))
     ∙ sym (one_write (observation_of (record_at body 0)) (observed k (drop 12 body)))
-
--- ---- the room that is needed
-
-pub pairs_short : (n t w room : ℕ) → room / 2 < t → true ≡ ltb room (2 * (t + n * w))
-pairs_short n t w room h = sym (lt-ltb room (2 * (t + n * w)) (omega arith))
-
-pub no_writes : (n t w room : ℕ) → t ≤ room / 2 → w ≡ 0 → false ≡ ltb room (2 * (t + n * w))
-no_writes n t w room h e =
-    let z : n * w ≡ 0 = ap (λ (x : ℕ). n * x) e ∙ mul-zero n in
-    sym (le-ltb room (2 * (t + n * w)) (omega arith))
-
-pub by_writes : (n t w room : ℕ) → t ≤ room / 2 → (w ≡ 0 → ⊥) → ltb ((room / 2 - t) / w) n ≡ ltb room (2 * (t + n * w))
-by_writes n t w room h e =
-    elim (dec_lt ((room / 2 - t) / w) n) [
-      | yes l ↦
-          (let g = (div-lt_iff_lt-mul {k = w} {x = room / 2 - t} {y = n} (omega arith)).0 l in
-          lt-ltb ((room / 2 - t) / w) n l ∙ sym (lt-ltb room (2 * (t + n * w)) (omega arith)))
-      | no l ↦
-          (let g : n * w ≤ room / 2 - t = not_less (room / 2 - t) (n * w) (λ k. l ((div-lt_iff_lt-mul {k = w} {x = room / 2 - t} {y = n} (omega arith)).1 k)) in
-          le-ltb ((room / 2 - t) / w) n (omega arith) ∙ sym (le-ltb room (2 * (t + n * w)) (omega arith)))
-    ]
-  where
-    not_less : (a b : ℕ) → (a < b → ⊥) → b ≤ a
-    not_less a b k = omega arith
 
 -- ---- the answer
 

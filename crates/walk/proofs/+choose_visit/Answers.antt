@@ -8,7 +8,7 @@ use Rattle.std.proofs.Common.{Err}
 use Rattle.std.proofs.lemmas.Result.{err_from_is_err_and}
 use Rattle.walk.proofs.Left.{an_end_is}
 use Rattle.walk.proofs.Visits.{end_left, end_room, visit_left, visit_room}
-use Rattle.walk.proofs.Ways.{at_end, no_choice, nothing_more, budget_spent, no_room, end_found, others_tried, stopped_on, choice_falls, fewer, events_few, part_length, one_event_more, same_after}
+use Rattle.walk.proofs.Ways.{at_end, no_choice, nothing_more, budget_spent, no_room, end_found, others_tried, stopped_on, choice_falls, fewer, events_few, part_length, same_after}
 use Rattle.walk.proofs.+choose_visit.Goals as goal
 
 pub choose-returns-then-body-lt12 : goal.choose-returns-then-body-lt12
@@ -48,7 +48,9 @@ choose-returns-in_err-seen t c =
 
 pub choose-overflow_add-result : goal.choose-overflow_add-result
 choose-overflow_add-result t c =
-    record { fits = one_event_more _ _ _ (events_few _ _ _ _ _ _ _ _ c.visit.ensures.result (c.in_ok-seen.was ∙ an_end_is _ _ c.in-Some.is)) (part_length c.args.room.now 2) c.well_formed.1.1.1.1.1.0.0 }
+    let few = events_few _ _ _ _ _ _ _ _ c.visit.ensures.result (c.in_ok-seen.was ∙ an_end_is _ _ c.in-Some.is) in
+    let part = part_length c.args.room.now 2 in
+    omega arith
 
 pub choose-returns-in-Some : goal.choose-returns-in-Some
 choose-returns-in-Some t c =
