@@ -2,7 +2,7 @@
 -- Assumes nothing.
 use mathlib.Core.Bool.{Bool, true, false, cond}
 use mathlib.Core.List.{List, [], ◌∷◌, ◌++◌, append_assoc}
-use mathlib.Core.Path.{◌≡◌, refl, sym, ap, ap₂, ◌∙◌}
+use mathlib.Core.Path.{◌≡◌, refl, sym, ap, ◌∙◌}
 use Prim.Native.Nat.{ℕ, suc, ◌+◌, ◌-◌, ◌*◌, ◌≤◌, ◌<◌}
 use native.Mathlib.Omega.{arith}
 use Rattle.std.proofs.lemmas.Bool.Decides.{nat_tests}
@@ -10,7 +10,6 @@ use Rattle.std.proofs.Common.{Option, Some, None, Result, Ok, Err}
 use lib.Dec.{leb, ltb}
 use lib.ListN.{length, take, drop}
 use lib.Seq.{drop-drop}
-use borrow.Author.Tests.{lt-leb, lt-ltb, le-ltb, leb-true, leb-false}
 use Rattle.model.specs.Walk.{Walked, found, endless, stopped, after, or_else}
 use Rattle.model.specs.Model.{service}
 use Rattle.model.specs.declared.Event.{Event}
@@ -62,13 +61,13 @@ neither false x y z p q h = q h
 module _ (n : ℕ) where
   pub left_inside : (b : ℕ) (w : Walked Event) → left_of (b + 1) (after (service n) 1 w) ≡ left_of b w
   unfolding left_of after
-  left_inside b (found k es) = ap₂ (λ (t : Bool) (l : ℕ). cond t (an_end l (length es)) (Err Spent)) (one_more k b) (same_left k b)
-  left_inside b (endless k) = ap₂ (λ (t : Bool) (l : ℕ). cond t (no_end l) (Err Spent)) (one_more k b) (same_left k b)
-  left_inside b (stopped k) = ap (λ (t : Bool). cond t (Err Deep) (Err Spent)) (one_more_below k b)
+  left_inside b (found k es) = grind (arith, nat_tests)
+  left_inside b (endless k) = grind (arith, nat_tests)
+  left_inside b (stopped k) = grind (arith, nat_tests)
 
   pub room_inside : (b : ℕ) (w : Walked Event) (room : List ℕ) → room_after (b + 1) (after (service n) 1 w) room ≡ room_after b w room
   unfolding room_after after
-  room_inside b (found k es) room = ap (λ (t : Bool). cond t (laid_in es room) room) (one_more k b)
+  room_inside b (found k es) room = grind (arith, nat_tests)
   room_inside b (endless k) room = refl
   room_inside b (stopped k) room = refl
 
@@ -83,39 +82,31 @@ module _ (n : ℕ) where
   -- with nothing left, the budget is spent
   pub nothing_left : (e : Event) (w r : Walked Event) → SomePoint w → left_of 0 (or_else (service n) e w r) ≡ Err Spent
   unfolding left_of or_else after
-  nothing_left e (found k es) r h = ap (λ (t : Bool). cond t (an_end (0 - k) (length (e ∷ es))) (Err Spent)) (lt-leb k 0 h)
-  nothing_left e (endless k) (found j es) h = ap (λ (t : Bool). cond t (an_end (0 - (k + j)) (length es)) (Err Spent)) (lt-leb (k + j) 0 (omega arith))
-  nothing_left e (endless k) (endless j) h = ap (λ (t : Bool). cond t (no_end (0 - (k + j))) (Err Spent)) (lt-leb (k + j) 0 (omega arith))
-  nothing_left e (endless k) (stopped j) h = ap (λ (t : Bool). cond t (Err Deep) (Err Spent)) (le-ltb (k + j) 0 (omega arith))
-  nothing_left e (stopped k) r h = ap (λ (t : Bool). cond t (Err Deep) (Err Spent)) (le-ltb k 0 (omega arith))
+  nothing_left e (found k es) r h = grind (arith, nat_tests)
+  nothing_left e (endless k) (found j es) h = grind (arith, nat_tests)
+  nothing_left e (endless k) (endless j) h = grind (arith, nat_tests)
+  nothing_left e (endless k) (stopped j) h = grind (arith, nat_tests)
+  nothing_left e (stopped k) r h = grind (arith, nat_tests)
 
   -- a child that is too deep
   pub too_deep : (b : ℕ) (e : Event) (r : Walked Event) → 0 < b → left_of b (or_else (service n) e (stopped 0) r) ≡ Err Deep
   unfolding left_of or_else
-  too_deep b e r h = ap (λ (t : Bool). cond t (Err Deep) (Err Spent)) (lt-ltb 0 b h)
+  too_deep b e r h = grind (arith, nat_tests)
 
   -- what a child comes to, for what its choice comes to
 
   pub step_found : (b l k : ℕ) (e : Event) (w r : Walked Event) → left_of b w ≡ an_end l k → left_of b (or_else (service n) e w r) ≡ an_end l (k + 1)
   unfolding left_of or_else
-  step_found b l k e (found j es) r h = go (leb j b) h
-    where
-      go : (t : Bool) → cond t (an_end (b - j) (length es)) (Err Spent) ≡ an_end l k → cond t (an_end (b - j) (suc (length es))) (Err Spent) ≡ an_end l (k + 1)
-      go true g = let q = same_end _ _ _ _ g in ap₂ an_end q.0 (omega arith)
-      go false g = absurd cc
-  step_found b l k e (endless j) r h = absurd (neither (leb j b) (no_end (b - j)) (Err Spent) (an_end l k) (one_of_two _ _ _) (λ e. cc) h)
-  step_found b l k e (stopped j) r h = absurd (neither (ltb j b) (Err Deep) (Err Spent) (an_end l k) (λ e. cc) (λ e. cc) h)
+  step_found b l k e (found j es) r h = grind (arith, nat_tests)
+  step_found b l k e (endless j) r h = grind (arith, nat_tests)
+  step_found b l k e (stopped j) r h = grind (arith, nat_tests)
 
   -- where a child has no end, its walk has none within the budget
   none_is : (b l : ℕ) (w : Walked Event) → left_of b w ≡ no_end l → (j : ℕ) × (w ≡ endless j) × (j ≤ b) × (l ≡ b - j)
   unfolding left_of
-  none_is b l (found j es) h = absurd (neither (leb j b) (an_end (b - j) (length es)) (Err Spent) (no_end l) (λ e. one_of_two _ _ _ (sym e)) (λ e. cc) h)
-  none_is b l (endless j) h = go (leb j b) refl h
-    where
-      go : (t : Bool) → leb j b ≡ t → cond t (no_end (b - j)) (Err Spent) ≡ no_end l → (i : ℕ) × (◌≡◌ {A = Walked Event} (endless j) (endless i)) × (i ≤ b) × (l ≡ b - i)
-      go true e g = (j, refl, leb-true j b e, sym (ap left_in g))
-      go false e g = absurd cc
-  none_is b l (stopped j) h = absurd (neither (ltb j b) (Err Deep) (Err Spent) (no_end l) (λ e. cc) (λ e. cc) h)
+  none_is b l (found j es) h = grind (arith, nat_tests)
+  none_is b l (endless j) h = grind (arith, nat_tests)
+  none_is b l (stopped j) h = grind (arith, nat_tests)
 
   shift : (k j b : ℕ) → k ≤ b → leb (k + j) b ≡ leb j (b - k)
   shift k j b h = grind (arith, nat_tests)
@@ -128,13 +119,13 @@ module _ (n : ℕ) where
 
   after_left : (b k : ℕ) (r : Walked Event) → k ≤ b → left_of b (after (service n) k r) ≡ left_of (b - k) r
   unfolding left_of after
-  after_left b k (found j es) h = ap₂ (λ (t : Bool) (l : ℕ). cond t (an_end l (length es)) (Err Spent)) (shift k j b h) (regroup b k j)
-  after_left b k (endless j) h = ap₂ (λ (t : Bool) (l : ℕ). cond t (no_end l) (Err Spent)) (shift k j b h) (regroup b k j)
-  after_left b k (stopped j) h = ap (λ (t : Bool). cond t (Err Deep) (Err Spent)) (shift_below k j b h)
+  after_left b k (found j es) h = grind (arith, nat_tests)
+  after_left b k (endless j) h = grind (arith, nat_tests)
+  after_left b k (stopped j) h = grind (arith, nat_tests)
 
   after_room : (b k : ℕ) (r : Walked Event) (room : List ℕ) → k ≤ b → room_after b (after (service n) k r) room ≡ room_after (b - k) r room
   unfolding room_after after
-  after_room b k (found j es) room h = ap (λ (t : Bool). cond t (laid_in es room) room) (shift k j b h)
+  after_room b k (found j es) room h = grind (arith, nat_tests)
   after_room b k (endless j) room h = refl
   after_room b k (stopped j) room h = refl
 
@@ -154,23 +145,15 @@ module _ (n : ℕ) where
   -- a spent budget stays spent, and the depth stop stays
   over : (b k : ℕ) (r : Walked Event) → b < k → left_of b (after (service n) k r) ≡ Err Spent
   unfolding left_of after
-  over b k (found j es) h = ap (λ (t : Bool). cond t (an_end (b - (k + j)) (length es)) (Err Spent)) (lt-leb (k + j) b (omega arith))
-  over b k (endless j) h = ap (λ (t : Bool). cond t (no_end (b - (k + j))) (Err Spent)) (lt-leb (k + j) b (omega arith))
-  over b k (stopped j) h = ap (λ (t : Bool). cond t (Err Deep) (Err Spent)) (le-ltb (k + j) b (omega arith))
+  over b k (found j es) h = grind (arith, nat_tests)
+  over b k (endless j) h = grind (arith, nat_tests)
+  over b k (stopped j) h = grind (arith, nat_tests)
 
   pub step_stopped : (b : ℕ) (stop : Stop) (e : Event) (w r : Walked Event) → left_of b w ≡ Err stop → left_of b (or_else (service n) e w r) ≡ Err stop
   unfolding left_of or_else
-  step_stopped b stop e (found j es) r h = go (leb j b) h
-    where
-      go : (t : Bool) → cond t (an_end (b - j) (length es)) (Err Spent) ≡ Err stop → cond t (an_end (b - j) (suc (length es))) (Err Spent) ≡ Err stop
-      go true g = absurd cc
-      go false g = g
-  step_stopped b stop e (endless j) r h = go (leb j b) refl h
-    where
-      go : (t : Bool) → leb j b ≡ t → cond t (no_end (b - j)) (Err Spent) ≡ Err stop → left_of b (after (service n) j r) ≡ Err stop
-      go true p g = absurd cc
-      go false p g = over b j r (leb-false j b p) ∙ g
-  step_stopped b stop e (stopped j) r h = h
+  step_stopped b stop e (found j es) r h = grind (arith, nat_tests)
+  step_stopped b stop e (endless j) r h = grind (arith, nat_tests)
+  step_stopped b stop e (stopped j) r h = grind (arith, nat_tests)
 
 -- ---- the room
 
@@ -181,11 +164,7 @@ Endless (Err stop) = Unit {0}
 
 pub room_kept : (b : ℕ) (w : Walked Event) (room : List ℕ) → Endless (left_of b w) → room_after b w room ≡ room
 unfolding left_of room_after
-room_kept b (found k es) room h = go (leb k b) h
-  where
-    go : (t : Bool) → Endless (cond t (an_end (b - k) (length es)) (Err Spent)) → cond t (laid_in es room) room ≡ room
-    go true g = absurd cc
-    go false g = refl
+room_kept b (found k es) room h = grind (arith, nat_tests)
 room_kept b (endless k) room h = refl
 room_kept b (stopped k) room h = refl
 

@@ -6,6 +6,7 @@ use mathlib.Core.Path.{◌≡◌, refl, sym, ap, ap₂, ◌∙◌, subst}
 use Prim.Native.Nat.{ℕ, zero, suc, ◌+◌, ◌-◌, ◌*◌, ◌/◌, ◌≤◌, ◌<◌}
 use native.Mathlib.Nat.{zero-add}
 use native.Mathlib.Omega.{arith}
+use Rattle.std.proofs.lemmas.Bool.Decides.{nat_tests}
 use Rattle.std.proofs.Common.{Result, Ok, Err}
 use Rattle.std.specs.List.{count_by}
 use Rattle.std.proofs.lemmas.List.Sums.{sum_by-cons}
@@ -13,7 +14,7 @@ use Rattle.std.specs.Simd.{first_chunks}
 use lib.Dec.{leb, ltb}
 use lib.ListN.{length, take, drop, length-drop, take-append-drop}
 use lib.Seq.{drop-append-le, length-take-le}
-use borrow.Author.Tests.{le-leb, ltb-false, leb-true}
+use borrow.Author.Tests.{le-leb, ltb-false}
 use Rattle.model.specs.Walk.{Walked, found, endless, stopped, tried, walked, Outcome, explained, unexplained, undecided, too_deep, cut}
 use Rattle.model.specs.Model.{service, first_state, writes, depth, walk, outcome}
 use Rattle.model.proofs.Sound.{found_within, some_point}
@@ -27,12 +28,12 @@ use Rattle.records.proofs.Parts.{record_part}
 use Rattle.records.specs.declared.Record.{Record}
 use Rattle.walk.specs.Rooms.{is_write}
 use Rattle.walk.specs.Choices.{choices_in, Possible}
-use Rattle.walk.specs.Steps.{laid, laid_in, left_of, room_after, deeper, an_end, no_end, first_end, none_in, answer_of, outcome_in, answered, room_answered}
+use Rattle.walk.specs.Steps.{laid, laid_in, left_of, room_after, deeper, an_end, first_end, answer_of, outcome_in, answered, room_answered}
 use Rattle.walk.proofs.Visits.{end_left, end_room, visit_left, visit_room}
 use Rattle.walk.specs.declared.Seen.{Seen}
 use Rattle.walk.specs.declared.Stop.{Stop}
 use Rattle.walk.specs.declared.Walked.{Walked as Told}
-use Rattle.walk.specs.declared.Stop.TheVariants.{Spent, Deep, NoRoom}
+use Rattle.walk.specs.declared.Stop.TheVariants.{Spent, NoRoom}
 
 -- ---- the observations and the writes of a body
 
@@ -78,21 +79,9 @@ answer_by b (Err stop) = Err stop
 
 pub told_by : (b : ℕ) (w : Walked Event) → answer_by b (left_of b w) ≡ answer_of (cut b w)
 unfolding left_of cut answer_of
-told_by b (found k es) = go (leb k b) refl
-  where
-    go : (t : Bool) → leb k b ≡ t → answer_by b (cond t (an_end (b - k) (length es)) (Err Spent)) ≡ answer_of (cond t (explained k es) (undecided b))
-    go true e = let h = leb-true k b e in let q : b - (b - k) ≡ k = omega arith in ap (λ (x : ℕ). first_end x (length es)) q
-    go false e = refl
-told_by b (endless k) = go (leb k b) refl
-  where
-    go : (t : Bool) → leb k b ≡ t → answer_by b (cond t (no_end (b - k)) (Err Spent)) ≡ answer_of (cond t (unexplained k) (undecided b))
-    go true e = let h = leb-true k b e in let q : b - (b - k) ≡ k = omega arith in ap none_in q
-    go false e = refl
-told_by b (stopped k) = go (ltb k b)
-  where
-    go : (t : Bool) → answer_by b (cond t (Err Deep) (Err Spent)) ≡ answer_of (cond t too_deep (undecided b))
-    go true = refl
-    go false = refl
+told_by b (found k es) = grind (arith, nat_tests)
+told_by b (endless k) = grind (arith, nat_tests)
+told_by b (stopped k) = grind (arith, nat_tests)
 
 -- a part from the front, put back
 front_back : (room : List ℕ) (m limit : ℕ) → m ≤ limit → limit ≤ length room → drop m (take limit room) ++ drop limit room ≡ drop m room
@@ -197,21 +186,9 @@ Left b (Err stop) = Unit {0}
 
 left_few : (b : ℕ) (w : Walked Event) → Left b (left_of b w)
 unfolding left_of
-left_few b (found k es) = go (leb k b)
-  where
-    go : (t : Bool) → Left b (cond t (an_end (b - k) (length es)) (Err Spent))
-    go true = omega arith
-    go false = tt
-left_few b (endless k) = go (leb k b)
-  where
-    go : (t : Bool) → Left b (cond t (no_end (b - k)) (Err Spent))
-    go true = omega arith
-    go false = tt
-left_few b (stopped k) = go (ltb k b)
-  where
-    go : (t : Bool) → Left b (cond t (Err Deep) (Err Spent))
-    go true = tt
-    go false = tt
+left_few b (found k es) = grind (arith, nat_tests)
+left_few b (endless k) = grind (arith, nat_tests)
+left_few b (stopped k) = grind (arith, nat_tests)
 
 pub few_left : (b l : ℕ) (r : Result Seen Stop) (w : Walked Event) (s : Seen) → l ≤ b → r ≡ left_of l w → r ≡ Ok s → s.left ≤ b
 few_left b l r w s few e g = let h : s.left ≤ l = subst (Left l) (sym e ∙ g) (left_few l w) in omega arith
