@@ -7,7 +7,7 @@ use Prim.Native.Nat.{ℕ, suc, ◌+◌, ◌-◌, ◌*◌, ◌≤◌, ◌<◌}
 use native.Mathlib.Omega.{arith}
 use Rattle.std.proofs.lemmas.Bool.Decides.{nat_tests}
 use Rattle.std.proofs.Common.{Option, Some, None, Result, Ok, Err}
-use lib.Dec.{leb, ltb}
+use lib.Dec.{leb}
 use lib.ListN.{length, take, drop}
 use lib.Seq.{drop-drop}
 use Rattle.model.specs.Walk.{Walked, found, endless, stopped, after, or_else}
@@ -18,43 +18,12 @@ use Rattle.walk.specs.declared.Seen.{Seen}
 use Rattle.walk.specs.declared.Stop.{Stop}
 use Rattle.walk.specs.declared.Stop.TheVariants.{Spent, Deep}
 
--- ---- the tests on counts
-
-one_more : (k b : ℕ) → leb (1 + k) (b + 1) ≡ leb k b
-one_more k b = grind (arith, nat_tests)
-
-one_more_below : (k b : ℕ) → ltb (1 + k) (b + 1) ≡ ltb k b
-one_more_below k b = grind (arith, nat_tests)
-
-same_left : (k b : ℕ) → b + 1 - (1 + k) ≡ b - k
-same_left k b = omega arith
-
--- what a visit leaves of the budget, and its events
-abbrev left_in : Result Seen Stop → ℕ
-left_in (Ok s) = s.left
-left_in (Err stop) = 0
-
-abbrev events_in : Result Seen Stop → Option ℕ
-events_in (Ok s) = s.events
-events_in (Err stop) = None
-
-pub same_end : (a b l k : ℕ) → an_end a b ≡ an_end l k → (a ≡ l) × (b ≡ k)
-same_end a b l k h = let e : ◌≡◌ {A = Option ℕ} (Some b) (Some k) = ap events_in h in (ap left_in h, cc)
-
-pub one_of_two : (a l k : ℕ) → no_end a ≡ an_end l k → ⊥
-one_of_two a l k h = let e : ◌≡◌ {A = Option ℕ} None (Some k) = ap events_in h in cc
-
--- it by its events
+-- what a visit leaves, by its events
 pub an_end_is : (s : Seen) (k : ℕ) → s.events ≡ Some k → Ok s ≡ an_end s.left k
 an_end_is s k h = ap (λ (e : Option ℕ). Ok (record { left = s.left; events = e })) h
 
 pub no_end_is : (s : Seen) → s.events ≡ None → Ok s ≡ no_end s.left
 no_end_is s h = ap (λ (e : Option ℕ). Ok (record { left = s.left; events = e })) h
-
--- a choice between two things that are not z is not z
-pub neither : {A : Type 0} (t : Bool) (x y z : A) → (x ≡ z → ⊥) → (y ≡ z → ⊥) → cond t x y ≡ z → ⊥
-neither true x y z p q h = p h
-neither false x y z p q h = q h
 
 -- ---- a point that is counted already
 
@@ -108,15 +77,6 @@ module _ (n : ℕ) where
   none_is b l (endless j) h = grind (arith, nat_tests)
   none_is b l (stopped j) h = grind (arith, nat_tests)
 
-  shift : (k j b : ℕ) → k ≤ b → leb (k + j) b ≡ leb j (b - k)
-  shift k j b h = grind (arith, nat_tests)
-
-  shift_below : (k j b : ℕ) → k ≤ b → ltb (k + j) b ≡ ltb j (b - k)
-  shift_below k j b h = grind (arith, nat_tests)
-
-  regroup : (b k j : ℕ) → b - (k + j) ≡ b - k - j
-  regroup b k j = omega arith
-
   after_left : (b k : ℕ) (r : Walked Event) → k ≤ b → left_of b (after (service n) k r) ≡ left_of (b - k) r
   unfolding left_of after
   after_left b k (found j es) h = grind (arith, nat_tests)
@@ -142,13 +102,7 @@ module _ (n : ℕ) where
       let c = none_is b l w h in
       ap (λ (x : Walked Event). room_after b (or_else (service n) e x r) room) c.1 ∙ after_room b c.0 r room c.2 ∙ ap (λ (x : ℕ). room_after x r room) (sym c.3)
 
-  -- a spent budget stays spent, and the depth stop stays
-  over : (b k : ℕ) (r : Walked Event) → b < k → left_of b (after (service n) k r) ≡ Err Spent
-  unfolding left_of after
-  over b k (found j es) h = grind (arith, nat_tests)
-  over b k (endless j) h = grind (arith, nat_tests)
-  over b k (stopped j) h = grind (arith, nat_tests)
-
+  -- what stops a child stops its choice
   pub step_stopped : (b : ℕ) (stop : Stop) (e : Event) (w r : Walked Event) → left_of b w ≡ Err stop → left_of b (or_else (service n) e w r) ≡ Err stop
   unfolding left_of or_else
   step_stopped b stop e (found j es) r h = grind (arith, nat_tests)
@@ -183,5 +137,5 @@ room_found n b l k e (found j es) r (u ∷ v ∷ room) h m = go (leb j b) h
         ap (λ (d : List ℕ). event_bytes e ++ (laid es ++ d)) (drop-drop (2 * length es) 2 (u ∷ v ∷ room) ∙ ap (λ (i : ℕ). drop i (u ∷ v ∷ room)) (sym q))
         ∙ sym (append_assoc (event_bytes e) (laid es) (drop (2 * suc (length es)) (u ∷ v ∷ room)))
     go false g = absurd cc
-room_found n b l k e (endless j) r room h m = absurd (neither (leb j b) (no_end (b - j)) (Err Spent) (an_end l k) (one_of_two _ _ _) (λ e. cc) h)
-room_found n b l k e (stopped j) r room h m = absurd (neither (ltb j b) (Err Deep) (Err Spent) (an_end l k) (λ e. cc) (λ e. cc) h)
+room_found n b l k e (endless j) r room h m = grind (arith, nat_tests)
+room_found n b l k e (stopped j) r room h m = grind (arith, nat_tests)

@@ -1,13 +1,14 @@
 -- Each way out of a choice: what it hands back and what it leaves in the room are what the definition says.
 -- Assumes nothing.
-use mathlib.Core.Bool.{Bool, true, false, cond}
+use mathlib.Core.Bool.{cond}
 use mathlib.Core.List.{List, ◌++◌, append-nil}
 use mathlib.Core.Path.{◌≡◌, refl, sym, ap, ap₂, ◌∙◌, subst}
 use Prim.Native.Nat.{ℕ, ◌+◌, ◌-◌, ◌*◌, ◌/◌, ◌≤◌, ◌<◌, ◌^◌}
 use native.Mathlib.Nat.{le_of_eq}
 use native.Mathlib.Omega.{arith}
+use Rattle.std.proofs.lemmas.Bool.Decides.{nat_tests}
 use Rattle.std.proofs.Common.{Some, None, Result, Ok, Err}
-use lib.Dec.{leb, ltb, eqb}
+use lib.Dec.{eqb}
 use lib.ListN.{length, take, drop, length-drop, take-append-drop, drop_of_length-le}
 use lib.Seq.{take_all}
 use borrow.Rule.Slice.PartMut.{same_len_mid}
@@ -22,7 +23,7 @@ use Rattle.model.specs.declared.Event.{Event}
 use Rattle.records.specs.Records.{record_at, observation_of, observations}
 use Rattle.walk.specs.Choices.{event_of, slot, choices_in}
 use Rattle.walk.specs.Steps.{event_bytes, an_end, no_end, left_of, room_after, deeper}
-use Rattle.walk.proofs.Left.{an_end_is, no_end_is, same_end, one_of_two, neither, nothing_left, too_deep, step_found, step_none, step_none_room, step_stopped, Endless, room_kept, room_found}
+use Rattle.walk.proofs.Left.{an_end_is, no_end_is, nothing_left, too_deep, step_found, step_none, step_none_room, step_stopped, Endless, room_kept, room_found}
 use Rattle.walk.proofs.Visits.{deeper_some, none_to_try, none_at_end, left_none, lowest_tried, child_walk, child_deep}
 use Rattle.walk.specs.declared.Seen.{Seen}
 use Rattle.walk.specs.declared.Stop.{Stop}
@@ -184,21 +185,14 @@ unfolding left_of
 events_few n d b l k s obs seen e g = go (walked (service n) d s obs) refl (sym e ∙ g)
   where
     go : (w : Walked Event) → walked (service n) d s obs ≡ w → left_of b w ≡ an_end l k → k ≤ d
-    go (found j es) q h = inner (leb j b) h (found_within (service n) d s obs j es q)
-      where
-        inner : (t : Bool) → cond t (an_end (b - j) (length es)) (Err Spent) ≡ an_end l k → length es ≤ d → k ≤ d
-        inner true x y = let z = (same_end _ _ _ _ x).1 in omega arith
-        inner false x y = absurd cc
-    go (endless j) q h = absurd (neither (leb j b) (no_end (b - j)) (Err Spent) (an_end l k) (one_of_two _ _ _) (λ e. cc) h)
-    go (stopped j) q h = absurd (neither (ltb j b) (Err Deep) (Err Spent) (an_end l k) (λ e. cc) (λ e. cc) h)
+    go (found j es) q h = let few = found_within (service n) d s obs j es q in grind (arith, nat_tests)
+    go (endless j) q h = grind (arith, nat_tests)
+    go (stopped j) q h = grind (arith, nat_tests)
 
 -- ---- lengths
 
 pub part_length : (xs : List ℕ) (a : ℕ) → length (take (length xs - a) (drop a xs)) ≡ length xs - a
 part_length xs a = ap length (to_end xs a) ∙ length-drop a xs
-
-pub one_event_more : (k x y : ℕ) → k ≤ x / 2 → x ≡ y - 2 → y < 2 ^ 64 → k + 1 < 2 ^ 64
-one_event_more k x y h e l = omega arith
 
 -- the room after a visit is as long as it was
 pub same_after : (room last : List ℕ) → length last ≡ length (take (length room - 2) (drop 2 room))
