@@ -3,12 +3,11 @@
 use mathlib.Core.Bool.{Bool, true, false, cond}
 use mathlib.Core.List.{List, [], ◌∷◌}
 use mathlib.Core.Path.{◌≡◌, refl, sym, ap, ◌∙◌}
-use Prim.Native.Nat.{ℕ, zero, suc, ◌+◌, ◌-◌, ◌/◌, ◌≤◌, ◌<◌, ◌^◌}
+use Prim.Native.Nat.{ℕ, zero, suc, ◌+◌, ◌/◌, ◌≤◌, ◌<◌, ◌^◌}
 use native.Mathlib.Omega.{arith}
-use Rattle.std.proofs.Common.{Err}
+use Rattle.std.proofs.lemmas.Bool.Decides.{nat_tests}
 use lib.Dec.{eqb}
 use lib.ListN.{length, drop, length-drop}
-use borrow.Author.Tests.{le-leb}
 use Rattle.marks.specs.Sets.{has, remove, lowest}
 use Rattle.marks.proofs.Laws.{has_empty}
 use Rattle.model.specs.Walk.{Choice, Walked, found, endless, stopped, after, or_else, tried, visited, walked, needed}
@@ -22,7 +21,6 @@ use Rattle.walk.specs.Choices.{event_of, slot, choices_in, Possible}
 use Rattle.walk.specs.Steps.{laid, laid_in, an_end, no_end, left_of, room_after, deeper}
 use Rattle.walk.proofs.Left.{SomePoint, left_inside, room_inside}
 use Rattle.walk.proofs.Sets.{lowest_first, none_in_empty, set_of_children}
-use Rattle.walk.specs.declared.Stop.TheVariants.{Spent}
 
 -- ---- the observations of a body
 
@@ -62,18 +60,11 @@ deeper_some n (suc d) s c = some_of n (walked (service n) d (then s c.event) c.l
 -- at an end
 pub end_left : (n d b : ℕ) (s : State) (body : List ℕ) → length body < 12 → an_end b 0 ≡ left_of (b + 1) (walked (service n) d s (observations body))
 unfolding left_of visited
-end_left n d b s body h =
-    let e : b ≡ b + 1 - 1 = omega arith in
-    sym (ap (λ (obs : List Observation). left_of (b + 1) (walked (service n) d s obs)) (observed_end body h)
-    ∙ ap (left_of (b + 1)) (walked_is n d s [])
-    ∙ ap (λ (t : Bool). cond t (an_end (b + 1 - 1) 0) (Err Spent)) (le-leb 1 (b + 1) (omega arith)) ∙ ap (λ (x : ℕ). an_end x 0) (sym e))
+end_left n d b s body h = rw (observed_end body h, walked_is n d s []) (grind (arith, nat_tests))
 
 pub end_room : (n d b : ℕ) (s : State) (body room : List ℕ) → length body < 12 → room ≡ room_after (b + 1) (walked (service n) d s (observations body)) room
 unfolding room_after visited laid_in laid
-end_room n d b s body room h =
-    sym (ap (λ (obs : List Observation). room_after (b + 1) (walked (service n) d s obs) room) (observed_end body h)
-    ∙ ap (λ (w : Walked Event). room_after (b + 1) w room) (walked_is n d s [])
-    ∙ ap (λ (t : Bool). cond t room room) (le-leb 1 (b + 1) (omega arith)))
+end_room n d b s body room h = rw (observed_end body h, walked_is n d s []) (grind (arith, nat_tests))
 
 -- at any other point, its possible choices are tried
 walk_chooses : (n d set : ℕ) (s : State) (body : List ℕ) → 12 ≤ length body → Possible n s (observation_of (record_at body 0)) set
@@ -111,7 +102,7 @@ none_at_end n d set s body h = ap (λ (obs : List Observation). tried (service n
 
 pub left_none : (b : ℕ) → no_end b ≡ left_of b (endless 0)
 unfolding left_of
-left_none b = let e : b ≡ b - 0 = omega arith in sym (ap (λ (t : Bool). cond t (no_end (b - 0)) (Err Spent)) (le-leb 0 b (omega arith)) ∙ ap no_end (sym e))
+left_none b = grind (arith, nat_tests)
 
 -- the lowest choice first, then the others
 pub lowest_tried : (n d set : ℕ) (s : State) (body : List ℕ) → 12 ≤ length body → set < 2 ^ 64 → 0 < set

@@ -11,11 +11,11 @@ use Rattle.std.proofs.Common.{Result, Ok, Err}
 use Rattle.std.specs.List.{count_by}
 use Rattle.std.proofs.lemmas.List.Sums.{sum_by-cons}
 use Rattle.std.specs.Simd.{first_chunks}
-use lib.Dec.{leb, ltb}
+use lib.Dec.{ltb}
 use lib.ListN.{length, take, drop, length-drop, take-append-drop}
 use lib.Seq.{drop-append-le, length-take-le}
 use borrow.Author.Tests.{le-leb, ltb-false}
-use Rattle.model.specs.Walk.{Walked, found, endless, stopped, tried, walked, Outcome, explained, unexplained, undecided, too_deep, cut}
+use Rattle.model.specs.Walk.{Walked, found, endless, stopped, tried, walked, Outcome, undecided, cut}
 use Rattle.model.specs.Model.{service, first_state, writes, depth, walk, outcome}
 use Rattle.model.proofs.Sound.{found_within, some_point}
 use Rattle.model.proofs.Budget.{none_for_nothing}
@@ -28,7 +28,7 @@ use Rattle.records.proofs.Parts.{record_part}
 use Rattle.records.specs.declared.Record.{Record}
 use Rattle.walk.specs.Rooms.{is_write}
 use Rattle.walk.specs.Choices.{choices_in, Possible}
-use Rattle.walk.specs.Steps.{laid, laid_in, left_of, room_after, deeper, an_end, first_end, answer_of, outcome_in, answered, room_answered}
+use Rattle.walk.specs.Steps.{laid, left_of, room_after, deeper, an_end, first_end, answer_of, outcome_in, answered, room_answered}
 use Rattle.walk.proofs.Visits.{end_left, end_room, visit_left, visit_room}
 use Rattle.walk.specs.declared.Seen.{Seen}
 use Rattle.walk.specs.declared.Stop.{Stop}
@@ -92,21 +92,13 @@ front_back room m limit h l =
 pub room_by : (b limit : ℕ) (w : Walked Event) (room : List ℕ) → limit ≤ length room → ((k : ℕ) (es : List Event) → w ≡ found k es → 2 * length es ≤ limit)
     → room_after b w (take limit room) ++ drop limit room ≡ outcome_in (cut b w) room
 unfolding room_after cut outcome_in
-room_by b limit (found k es) room h few = go (leb k b)
-  where
-    go : (t : Bool) → cond t (laid_in es (take limit room)) (take limit room) ++ drop limit room ≡ outcome_in (cond t (explained k es) (undecided b)) room
-    go true = append_assoc (laid es) (drop (2 * length es) (take limit room)) (drop limit room) ∙ ap (λ (x : List ℕ). laid es ++ x) (front_back room (2 * length es) limit (few k es refl) h)
-    go false = take-append-drop limit room
-room_by b limit (endless k) room h few = go (leb k b)
-  where
-    go : (t : Bool) → take limit room ++ drop limit room ≡ outcome_in (cond t (unexplained k) (undecided b)) room
-    go true = take-append-drop limit room
-    go false = take-append-drop limit room
-room_by b limit (stopped k) room h few = go (ltb k b)
-  where
-    go : (t : Bool) → take limit room ++ drop limit room ≡ outcome_in (cond t too_deep (undecided b)) room
-    go true = take-append-drop limit room
-    go false = take-append-drop limit room
+room_by b limit (found k es) room h few =
+    let kept = take-append-drop limit room in
+    let later = front_back room (2 * length es) limit (few k es refl) h in
+    let joined = append_assoc (laid es) (drop (2 * length es) (take limit room)) (drop limit room) in
+    grind (arith, nat_tests)
+room_by b limit (endless k) room h few = let kept = take-append-drop limit room in grind (arith, nat_tests)
+room_by b limit (stopped k) room h few = let kept = take-append-drop limit room in grind (arith, nat_tests)
 
 -- ---- the whole call
 
