@@ -1,16 +1,15 @@
 -- Each way out of the call: what is said and what the room then is.
 -- Assumes nothing.
-use mathlib.Core.Bool.{Bool, true, false, cond}
 use mathlib.Core.List.{List, [], ◌∷◌}
 use mathlib.Core.Path.{◌≡◌, refl, sym, ap, ap₂, ◌∙◌}
 use Prim.Native.Nat.{ℕ, ◌-◌, ◌*◌, ◌^◌, ◌≤◌, ◌<◌}
 use native.Mathlib.Nat.{mul-le-mul, le_trans}
 use native.Mathlib.Omega.{arith}
+use Rattle.std.proofs.lemmas.Bool.Decides.{nat_tests}
 use Rattle.std.proofs.Common.{Option, Some, None, Result, Ok, Err}
-use lib.Dec.{ltb, leb}
 use lib.ListN.{length, drop, length-drop}
 use lib.Seq.{length-take-le}
-use Rattle.model.specs.Walk.{Walked, found, endless, stopped, explained, unexplained, undecided, too_deep, cut}
+use Rattle.model.specs.Walk.{Walked, found, endless, stopped, cut}
 use Rattle.model.specs.Model.{service, first_state, writes, depth, walk, outcome}
 use Rattle.model.proofs.Sound.{found_within}
 use Rattle.model.specs.declared.Observation.{Observation}
@@ -72,10 +71,6 @@ abbrev by_events : ℕ → Option ℕ → Said
 by_events k (Some m) = explained_by k m
 by_events k None = unexplained_in k
 
-abbrev events_in : Result Told Stop → Option ℕ
-events_in (Ok w) = w.events
-events_in (Err stop) = None
-
 abbrev pub say : ℕ → Result Told Stop → Said
 say b (Ok w) = by_events w.points w.events
 say b (Err Spent) = undecided_at b
@@ -91,29 +86,13 @@ none_in_is w h = ap (λ (e : Option ℕ). Ok (record { points = w.points; events
 
 cut_said : (b : ℕ) (w : Walked Event) → say b (answer_of (cut b w)) ≡ said (cut b w)
 unfolding cut answer_of said
-cut_said b (found k es) = go (leb k b)
-  where
-    go : (t : Bool) → say b (answer_of (cond t (explained k es) (undecided b))) ≡ said (cond t (explained k es) (undecided b))
-    go true = refl
-    go false = refl
-cut_said b (endless k) = go (leb k b)
-  where
-    go : (t : Bool) → say b (answer_of (cond t (unexplained k) (undecided b))) ≡ said (cond t (unexplained k) (undecided b))
-    go true = refl
-    go false = refl
-cut_said b (stopped k) = go (ltb k b)
-  where
-    go : (t : Bool) → say b (answer_of (cond t too_deep (undecided b))) ≡ said (cond t too_deep (undecided b))
-    go true = refl
-    go false = refl
+cut_said b (found k es) = grind (arith, nat_tests)
+cut_said b (endless k) = grind (arith, nat_tests)
+cut_said b (stopped k) = grind (arith, nat_tests)
 
 answer_said : (f : List ℕ) (t b room : ℕ) → say b (answered (tablets_in f) (evening f t) b room) ≡ walked_in f t b room
 unfolding answered walked_in outcome
-answer_said f t b room = go (ltb room (2 * depth (tablets_in f) (evening f t)))
-  where
-    go : (x : Bool) → say b (cond x (Err NoRoom) (answer_of (cut b (walk (tablets_in f) (evening f t))))) ≡ cond x (refused 9 0) (said (cut b (walk (tablets_in f) (evening f t))))
-    go true = refl
-    go false = cut_said b (walk (tablets_in f) (evening f t))
+answer_said f t b room = let same = cut_said b (walk (tablets_in f) (evening f t)) in grind (arith, nat_tests)
 
 pub walk_said : (f : List ℕ) (t b n : ℕ) (room body : List ℕ) (a known : Result Told Stop) (last : List ℕ) → check_trace f t ≡ R.accepted → n ≡ tablets_in f → body ≡ asked f t
     → a ≡ answered n (observations body) b (length room) → last ≡ room_answered n (observations body) b room → a ≡ known → Says f t b room (say b known) last
@@ -148,38 +127,15 @@ depth_small f t c =
     let p : tablets_in f * writes (evening f t) ≤ 8 * 256 = mul-le-mul n ws in
     omega arith
 
--- the number of events of one answer is that of the other
-events_told : {a b k m : ℕ} → first_end a b ≡ first_end k m → b ≡ m
-events_told h = let e = ap events_in h in cc
-
-no_events : {a k m : ℕ} → none_in a ≡ first_end k m → ⊥
-no_events h = let e = ap events_in h in cc
-
 cut_few : (n b k m : ℕ) (obs : List Observation) (w : Walked Event) → walk n obs ≡ w → answer_of (cut b w) ≡ first_end k m → m ≤ depth n obs
 unfolding cut answer_of walk
-cut_few n b k m obs (found j es) e h = go (leb j b) h (found_within (service n) (depth n obs) (first_state n) obs j es e)
-  where
-    go : (t : Bool) → answer_of (cond t (explained j es) (undecided b)) ≡ first_end k m → length es ≤ depth n obs → m ≤ depth n obs
-    go true g l = let q : length es ≡ m = events_told g in omega arith
-    go false g l = absurd cc
-cut_few n b k m obs (endless j) e h = go (leb j b) h
-  where
-    go : (t : Bool) → answer_of (cond t (unexplained j) (undecided b)) ≡ first_end k m → m ≤ depth n obs
-    go true g = absurd (no_events g)
-    go false g = absurd cc
-cut_few n b k m obs (stopped j) e h = go (ltb j b) h
-  where
-    go : (t : Bool) → answer_of (cond t too_deep (undecided b)) ≡ first_end k m → m ≤ depth n obs
-    go true g = absurd cc
-    go false g = absurd cc
+cut_few n b k m obs (found j es) e h = let few = found_within (service n) (depth n obs) (first_state n) obs j es e in grind (arith, nat_tests)
+cut_few n b k m obs (endless j) e h = grind (arith, nat_tests)
+cut_few n b k m obs (stopped j) e h = grind (arith, nat_tests)
 
 answered_few : (n b k m room : ℕ) (obs : List Observation) → answered n obs b room ≡ first_end k m → m ≤ depth n obs
 unfolding answered outcome
-answered_few n b k m room obs h = go (ltb room (2 * depth n obs)) h
-  where
-    go : (x : Bool) → cond x (Err NoRoom) (answer_of (cut b (walk n obs))) ≡ first_end k m → m ≤ depth n obs
-    go true g = absurd cc
-    go false g = cut_few n b k m obs (walk n obs) refl g
+answered_few n b k m room obs h = let few = cut_few n b k m obs (walk n obs) refl in grind (arith, nat_tests)
 
 pub events_small : (f : List ℕ) (t b n k m room : ℕ) (body : List ℕ) (a : Result Told Stop) → check_trace f t ≡ R.accepted → n ≡ tablets_in f → body ≡ asked f t
     → a ≡ answered n (observations body) b room → a ≡ first_end k m → m < 2 ^ 32
