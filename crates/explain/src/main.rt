@@ -1,4 +1,5 @@
-// Reads one trace file from standard input, and prints a line or two for each of its traces.
+// Reads one trace file from standard input, and prints a line or two for each of its traces. It stands on the C library's read
+// and write alone, without a heap; a read that fails ends the file, where std's reader would give an error in place of a text.
 #![tactic(auto)]
 
 ghost use Rattle.std.specs.Prelude.{◌≡◌, length};

@@ -25,10 +25,10 @@ pub loop-value-preserved : goal.loop-value-preserved
 loop-value-preserved c = elim c.if-has.branch [
   | then-has w ↦
       rw w.self-is
-      (one_more _ _ (rw (with_value c.args.set c.loop-value.value c.loop-value-test.true (sym c.has.ensures ∙ w.if-has.true)) at c.loop-value.invariant)
+      (one_more _ _ (rw (with_value c.args.set c.loop-value.value (omega arith) (sym c.has.ensures ∙ w.if-has.true)) at c.loop-value.invariant)
       (rw w.from-then-has.ensures at w.put_number.ensures))
   | else-has w ↦
-      rw (w.self-is, ← without_value c.args.set c.loop-value.value c.loop-value-test.true (sym c.has.ensures ∙ w.if-has.false)) c.loop-value.invariant
+      rw (w.self-is, ← without_value c.args.set c.loop-value.value (omega arith) (sym c.has.ensures ∙ w.if-has.false)) c.loop-value.invariant
 ]
 
 pub returns : goal.returns
