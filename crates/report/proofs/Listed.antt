@@ -29,50 +29,50 @@ is_there f t good low high =
 
 -- ---- one after the other
 
--- Whatever puts the traces that are left, from here, puts all of them from the front.
-pub record Reached (f : List ℕ) (traces : ℕ) (out₀ out : List ℕ) (at done : ℕ) : Type 0 where
-  pub within : done ≤ traces
+-- Whatever puts the traces from this one on, from here, puts all of them from the front.
+pub record Reached (f : List ℕ) (traces : ℕ) (out₀ out : List ℕ) (at trace : ℕ) : Type 0 where
+  pub within : trace ≤ traces + 1
   pub inside : at ≤ length out
   pub completes : check f ≡ R.accepted → traces ≡ bodies_in f → (next : ℕ) (last : List ℕ)
-      → PutIn ((traces - done) * trace_room) (traces_text f (traces - done) (done + 1)) out at next last
+      → PutIn ((traces + 1 - trace) * trace_room) (traces_text f (traces + 1 - trace) trace) out at next last
       → PutIn (traces * trace_room) (traces_text f traces 1) out₀ 0 next last
 
-pub at_first : (f : List ℕ) (traces : ℕ) (out : List ℕ) → Reached f traces out out 0 0
+pub at_first : (f : List ℕ) (traces : ℕ) (out : List ℕ) → Reached f traces out out 0 1
 at_first f traces out =
-    let e : traces - 0 ≡ traces = omega arith in
+    let e : traces + 1 - 1 ≡ traces = omega arith in
     record {
       within = omega arith;
       inside = omega arith;
       completes = λ good all next last p. subst (λ (n : ℕ). PutIn (n * trace_room) (traces_text f n 1) out 0 next last) e p;
     }
 
-pub one_more : (f : List ℕ) (traces : ℕ) (out₀ out copied : List ℕ) (at count done : ℕ) → Reached f traces out₀ out at done → done < traces
+pub one_more : (f : List ℕ) (traces : ℕ) (out₀ out copied : List ℕ) (at count trace : ℕ) → Reached f traces out₀ out at trace → 1 ≤ trace → trace ≤ traces
     → count ≤ length copied → length copied ≡ length (take (length out - at) (drop at out))
-    → (check_trace f (done + 1) ≡ R.accepted → PutIn trace_room (trace_text f (done + 1)) (take (length out - at) (drop at out)) 0 count copied)
-    → Reached f traces out₀ (take at out ++ (copied ++ drop (length out - at) (drop at out))) (at + count) (done + 1)
+    → (check_trace f trace ≡ R.accepted → PutIn trace_room (trace_text f trace) (take (length out - at) (drop at out)) 0 count copied)
+    → Reached f traces out₀ (take at out ++ (copied ++ drop (length out - at) (drop at out))) (at + count) (trace + 1)
 unfolding traces_text
-one_more f traces out₀ out copied at count done r h l kept p =
-    let e : traces - done ≡ suc (traces - (done + 1)) = omega arith in
+one_more f traces out₀ out copied at count trace r low h l kept p =
+    let left : traces + 1 - trace ≡ suc (traces + 1 - (trace + 1)) = omega arith in
     record {
       within = omega arith;
       inside = rw (rest_kept out copied at r.inside kept) (omega arith);
       completes = λ good all next last q.
-          let g : trace_room + (traces - (done + 1)) * trace_room ≡ suc (traces - (done + 1)) * trace_room = omega arith in
-          let here = in_rest trace_room _ out at count copied r.inside (p (is_there f (done + 1) good (omega arith) (omega arith))) in
-          let both = then_in trace_room ((traces - (done + 1)) * trace_room) _ _ out _ at (at + count) next last here q in
+          let g : trace_room + (traces + 1 - (trace + 1)) * trace_room ≡ suc (traces + 1 - (trace + 1)) * trace_room = omega arith in
+          let here = in_rest trace_room _ out at count copied r.inside (p (is_there f trace good low (omega arith))) in
+          let both = then_in trace_room ((traces + 1 - (trace + 1)) * trace_room) _ _ out _ at (at + count) next last here q in
           r.completes good all next last
-          (subst (λ (n : ℕ). PutIn (n * trace_room) (traces_text f n (done + 1)) out at next last) (sym e)
-          (subst (λ (room : ℕ). PutIn room (trace_text f (done + 1) ++ traces_text f (traces - (done + 1)) (done + 1 + 1)) out at next last) g both));
+          (subst (λ (n : ℕ). PutIn (n * trace_room) (traces_text f n trace) out at next last) (sym left)
+          (subst (λ (room : ℕ). PutIn room (trace_text f trace ++ traces_text f (traces + 1 - (trace + 1)) (trace + 1)) out at next last) g both));
     }
 
-pub all_put : (f : List ℕ) (traces : ℕ) (out₀ out : List ℕ) (at done : ℕ) → Reached f traces out₀ out at done → traces ≤ done
+pub all_put : (f : List ℕ) (traces : ℕ) (out₀ out : List ℕ) (at trace : ℕ) → Reached f traces out₀ out at trace → traces < trace
     → check f ≡ R.accepted → traces ≡ bodies_in f → PutIn (traces * trace_room) (traces_text f traces 1) out₀ 0 at out
 unfolding traces_text PutIn
-all_put f traces out₀ out at done r h good all =
-    let e : traces - done ≡ 0 = omega arith in
+all_put f traces out₀ out at trace r h good all =
+    let none : traces + 1 - trace ≡ 0 = omega arith in
     let z : at + 0 ≡ at = omega arith in
     r.completes good all at out
-    (subst (λ (n : ℕ). PutIn (n * trace_room) (traces_text f n (done + 1)) out at at out) (sym e)
+    (subst (λ (n : ℕ). PutIn (n * trace_room) (traces_text f n trace) out at at out) (sym none)
     (λ fits. (
       record { ends = sym z; bytes = sym (ap (λ (n : ℕ). take at out ++ drop n out) z ∙ take-append-drop at out) },
       omega arith,

@@ -55,7 +55,7 @@ refusal_explains_nothing R.accepted h = h
 refusal_explains_nothing (R.refused number place) h = h
 
 -- an answer of any case but the first
-pub not_explained : (v : Result Verdict Refusal) → ((k m : ℕ) → v ≡ Ok (Explained k m) → ⊥) → IsExplained (told v) → ⊥
+not_explained : (v : Result Verdict Refusal) → ((k m : ℕ) → v ≡ Ok (Explained k m) → ⊥) → IsExplained (told v) → ⊥
 not_explained (Ok (Explained k m)) h i = h k m refl
 not_explained (Ok (Unexplained k)) h i = i
 not_explained (Ok (Undecided b)) h i = i

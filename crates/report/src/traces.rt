@@ -50,8 +50,8 @@ pub fn put_traces(file: &[u8], traces: u8, out: &mut [u8]) -> usize
     ensures { check file.now ≡ accepted → traces ≡ bodies_in file.now → PutIn (traces * trace_room) (traces_text file.now traces 1) out.old 0 result out.new }
 {
     let mut size = 0;
-    for done in 0..traces {
-        size += put_trace(file, u32::from(done) + 1, &mut out[size..]);
+    for trace in 1..u32::from(traces) + 1 {
+        size += put_trace(file, trace, &mut out[size..]);
     }
     size
 }

@@ -1,7 +1,7 @@
--- Whatever puts the traces that are left puts all of them.
+-- Whatever puts the traces from this one on puts all of them.
 -- Assumes nothing.
 use Rattle.report.proofs.Listed.{Reached}
 use Rattle.report.proofs.traces.put_traces.Given as goal
 
-abbrev pub invariant-loop-done : goal.invariant-loop-done
-invariant-loop-done l = Reached l.file l.traces l.initial.out l.out l.size l.done
+abbrev pub invariant-loop-trace : goal.invariant-loop-trace
+invariant-loop-trace l = Reached l.file l.traces l.initial.out l.out l.size l.trace
