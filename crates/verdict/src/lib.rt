@@ -37,7 +37,7 @@ impl From<Refusal> for Numbered {
 
     fn from(refusal: Refusal) -> Numbered {
         match refusal {
-            Refusal::File(refusal) => Numbered::from(refusal),
+            Refusal::File(of_file) => Numbered::from(of_file),
             Refusal::NoRoom => Numbered {
                 number: 9,
                 place: 0,

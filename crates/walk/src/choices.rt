@@ -15,14 +15,14 @@ fn next_observation(body: &[u8]) -> Observation
 }
 
 // The set of possible choices where the body's first record is the next observation.
-pub fn possible(n: u8, body: &[u8], state: State) -> u64
-    ensures { Possible n state (observation_of (record_at body.now 0)) result }
+pub fn possible(n: u8, body: &[u8], state: &State) -> u64
+    ensures { Possible n state.now (observation_of (record_at body.now 0)) result }
 {
     let tablets = events::first(n).fresh;
     let ups = state.dirty & tablets;
     let downs = ((state.fresh | state.dirty) ^ 255) & tablets;
     let hidden = (u64::from(ups) << 1) | (u64::from(downs) << 9);
-    if events::may_observe(n, state, next_observation(body)) {
+    if events::may_observe(n, *state, next_observation(body)) {
         hidden | 1
     } else {
         hidden
@@ -31,13 +31,13 @@ pub fn possible(n: u8, body: &[u8], state: State) -> u64
 
 // The state after a choice.
 #[tactic(auto, using(crate::proofs::Events::is_observed, crate::proofs::Events::is_up, crate::proofs::Events::is_down))]
-pub fn after(body: &[u8], state: State, pick: u8) -> State
-    ensures { result ≡ then state (event_of pick (observation_of (record_at body.now 0))) }
+pub fn after(body: &[u8], state: &State, pick: u8) -> State
+    ensures { result ≡ then state.now (event_of pick (observation_of (record_at body.now 0))) }
 {
     match pick {
-        0 => events::then_observe(state, next_observation(body)),
-        1..=8 => events::then_up(state, pick),
-        _ => events::then_down(state, pick - 8),
+        0 => events::then_observe(*state, next_observation(body)),
+        1..=8 => events::then_up(*state, pick),
+        _ => events::then_down(*state, pick - 8),
     }
 }
 

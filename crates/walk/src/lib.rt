@@ -39,12 +39,12 @@ pub struct Seen {
     pub events: Option<usize>,
 }
 
-// Visits a point, which is counted already: left is what the budget still has. The four things that a visit is given
-// change each by itself from one step to the next, so they stay apart.
+// Visits a point, which is counted already: left is what the budget still has. Body, state, budget and room change each by
+// itself from one step to the next, so they stand apart.
 #[cycle(choose_visit)]
-fn visit(n: u8, body: &[u8], state: State, left: u32, room: &mut [u8]) -> Result<Seen, Stop>
-    ensures result { result ≡ left_of (left + 1) (walked (service n) (length room.old / 2) state (observations body.now)) }
-    ensures room { room.new ≡ room_after (left + 1) (walked (service n) (length room.old / 2) state (observations body.now)) room.old }
+fn visit(n: u8, body: &[u8], state: &State, left: u32, room: &mut [u8]) -> Result<Seen, Stop>
+    ensures result { result ≡ left_of (left + 1) (walked (service n) (length room.old / 2) state.now (observations body.now)) }
+    ensures room { room.new ≡ room_after (left + 1) (walked (service n) (length room.old / 2) state.now (observations body.now)) room.old }
 {
     if body.len() < 12 {
         return Ok(Seen {
@@ -64,13 +64,13 @@ fn visit(n: u8, body: &[u8], state: State, left: u32, room: &mut [u8]) -> Result
 fn choose(
     n: u8,
     body: &[u8],
-    state: State,
+    state: &State,
     choices: u64,
     left: u32,
     room: &mut [u8],
 ) -> Result<Seen, Stop>
-    ensures result { result ≡ left_of left (tried (service n) (deeper n (length room.old / 2) state) (choices_in choices (observations body.now))) }
-    ensures room { room.new ≡ room_after left (tried (service n) (deeper n (length room.old / 2) state) (choices_in choices (observations body.now))) room.old }
+    ensures result { result ≡ left_of left (tried (service n) (deeper n (length room.old / 2) state.now) (choices_in choices (observations body.now))) }
+    ensures room { room.new ≡ room_after left (tried (service n) (deeper n (length room.old / 2) state.now) (choices_in choices (observations body.now))) room.old }
 {
     if body.len() < 12 {
         return Ok(Seen { left, events: None });
@@ -87,7 +87,7 @@ fn choose(
     let pick = marks::lowest(choices);
     let next = after(body, state, pick);
     let skip = used(pick);
-    let seen = visit(n, &body[skip..], next, left - 1, &mut room[2..])?;
+    let seen = visit(n, &body[skip..], &next, left - 1, &mut room[2..])?;
     match seen.events {
         Some(events) => {
             room[..2].copy_from_slice(&event_at(body, pick));
@@ -126,8 +126,8 @@ pub fn walk(n: u8, body: &[u8], budget: u32, room: &mut [u8]) -> Result<Walked, 
         });
     }
     let first = events::first(n);
-    let choices = possible(n, body, first);
-    let seen = choose(n, body, first, choices, left, &mut room[0..limit])?;
+    let choices = possible(n, body, &first);
+    let seen = choose(n, body, &first, choices, left, &mut room[0..limit])?;
     Ok(Walked {
         points: budget - seen.left,
         events: seen.events,

@@ -19,11 +19,11 @@ all_fresh n s e = ap (λ (x : State). x.fresh) e
 pub returns-then-may_observe : goal.returns-then-may_observe
 returns-then-may_observe c =
     rw (c.from.ensures, c.from-2.ensures, all_fresh _ _ c.first-tablets.ensures)
-    (possible_with c.args.n c.args.state (search rules) (search rules) _
-    (ap (λ (o : Observation). may c.args.n c.args.state (Observed o)) (sym c.next_observation.ensures) ∙ sym c.may_observe.ensures ∙ c.if-may_observe.true))
+    (possible_with c.args.n c.args.state.now (search rules) (search rules) _
+    (ap (λ (o : Observation). may c.args.n c.args.state.now (Observed o)) (sym c.next_observation.ensures) ∙ sym c.may_observe.ensures ∙ c.if-may_observe.true))
 
 pub returns-else-may_observe : goal.returns-else-may_observe
 returns-else-may_observe c =
     rw (c.from.ensures, c.from-2.ensures, all_fresh _ _ c.first-tablets.ensures)
-    (possible_without c.args.n c.args.state (search rules) (search rules) _
-    (ap (λ (o : Observation). may c.args.n c.args.state (Observed o)) (sym c.next_observation.ensures) ∙ sym c.may_observe.ensures ∙ c.if-may_observe.false))
+    (possible_without c.args.n c.args.state.now (search rules) (search rules) _
+    (ap (λ (o : Observation). may c.args.n c.args.state.now (Observed o)) (sym c.next_observation.ensures) ∙ sym c.may_observe.ensures ∙ c.if-may_observe.false))
