@@ -3,7 +3,8 @@
 
 ghost use Rattle.std.specs.Prelude.{◌≡◌, cond, not, ◌||◌, ◌*◌, ltb, eqb, length, IfOk};
 ghost use Rattle.tracefile.specs.File.{record_size};
-ghost use Rattle.writer.specs.Written.{Outcome, refused, wrote, told, and_then, sum, over, bad_record, write, file_of, buffer_after};
+ghost use Rattle.writer.specs.Written.{Outcome, refused, wrote, told, and_then, sum, over, bad_record};
+ghost use Rattle.writer.specs.Written.{write, file_of, buffer_after};
 ghost use Rattle.writer.specs.Decided.{Decided};
 
 use records::{Limits, read_record};
@@ -64,7 +65,7 @@ fn first_bad(limits: Limits, records: &[u8], all: u16) -> Result<(), Unwritten>
 }
 
 // What writing comes to: each refusal in its order, or the length of the file.
-#[tactic(auto, unfolding(crate::specs::Written::write, crate::specs::Written::rows_then_room, crate::specs::Written::fitted))]
+#[tactic(auto, unfolding(crate::specs::Written::write, crate::specs::Written::rows_then_room))]
 fn decide(n: u32, v: u32, counts: &[u32], records: &[u8], room: usize) -> Result<u32, Unwritten>
     ensures told { told result ≡ write n v counts.now records.now room }
     ensures decided { IfOk result (λ size. Decided n v counts.now records.now room size) }
@@ -92,7 +93,8 @@ fn decide(n: u32, v: u32, counts: &[u32], records: &[u8], room: usize) -> Result
     fitted((4 + 4 * k + bytes) as u32, room)
 }
 
-// Writes the file of n tablets, v values, bodies of these counts and all their records, back to back, and gives its length.
+// Writes the file of n tablets, v values, bodies of these counts and all their records, back to back. It gives the file's
+// length.
 #[tactic(auto, using(crate::proofs::Decided::refused_keeps, crate::proofs::Buffer::entering))]
 pub fn write_file(
     n: u32,
