@@ -58,20 +58,20 @@ impl Head {
 pub fn check_head(file: &[u8]) -> Result<(), Refusal>
     ensures { told result ≡ head file.now }
 {
-    if !(4..=65535).contains(&file.len()) {
+    if file.len() < 4 || 65535 < file.len() {
         return Err(Refusal::Length);
     }
     if byte_at(file, 0) != 1 {
         return Err(Refusal::Edition);
     }
     let Head { limits, bodies } = Head::of(file);
-    if !(1..=8).contains(&limits.tablets) {
+    if limits.tablets < 1 || 8 < limits.tablets {
         return Err(Refusal::Tablets);
     }
-    if !(1..=64).contains(&limits.values) {
+    if limits.values < 1 || 64 < limits.values {
         return Err(Refusal::Values);
     }
-    if !(1..=16).contains(&bodies) {
+    if bodies < 1 || 16 < bodies {
         return Err(Refusal::Bodies);
     }
     Ok(())

@@ -83,7 +83,7 @@ pub fn check_asked(file: &[u8], trace: u32) -> Result<(), Refusal>
 {
     check_file(file)?;
     let bodies = u32::from(Head::of(file).bodies);
-    if !(1..=bodies).contains(&trace) {
+    if trace < 1 || bodies < trace {
         return Err(Refusal::Trace);
     }
     Ok(())

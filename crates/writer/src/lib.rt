@@ -70,7 +70,6 @@ fn decide(n: u32, v: u32, counts: &[u32], records: &[u8], room: usize) -> Result
     ensures told { told result ≡ write n v counts.now records.now room }
     ensures decided { IfOk result (λ size. Decided n v counts.now records.now room size) }
 {
-    // Compared one by one: with the ranges' own test of what they hold, the third of these leaves its proof open.
     if n < 1 || 8 < n {
         return Err(Unwritten::Tablets);
     }
