@@ -103,7 +103,7 @@ pub fn events_line(events: &[u8], out: &mut [u8]) -> usize
 {
     let Some(room) = (events.len() / 2)
         .checked_mul(3)
-        .and_then(|parted| parted.checked_add(1))
+        .and_then(|bytes| bytes.checked_add(1))
     else {
         return 0;
     };
