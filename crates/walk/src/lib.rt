@@ -33,10 +33,10 @@ pub enum Stop {
 
 // What a visit comes to that was not stopped: what it leaves of the budget, and the number of events from here to an end,
 // if it found one.
-#[derive(Clone, Copy, Debug, PartialEq, Eq)]
-pub struct Seen {
-    pub left: u32,
-    pub events: Option<usize>,
+#[derive(Clone, Copy)]
+struct Seen {
+    left: u32,
+    events: Option<usize>,
 }
 
 // Visits a point, which is counted already: left is what the budget still has. Body, state, budget and room change each by
