@@ -1,4 +1,4 @@
--- What takes a place in the room beside the observations: the writes, each of which every tablet may upload or download once.
+-- Which observations are writes: each may be followed by an UP and, at every other tablet, by a DOWN.
 use Rattle.std.specs.Prelude.{Bool, true, false}
 use Rattle.model.specs.declared.Observation.{Observation}
 use Rattle.model.specs.declared.Observation.TheVariants.{Read, Write, Stabilize, Failed}

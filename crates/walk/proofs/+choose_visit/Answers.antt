@@ -62,7 +62,9 @@ choose-returns-then-others-eq0 t c =
 
 pub choose-choose-requires : goal.choose-choose-requires
 choose-choose-requires t c =
-    (choice_falls (2 ^ 64) _ _ _ _ t c.decreases (same_after c.args.room.now c.visit.new.room c.visit.auto.room) (fewer _ _ _ c.ranges.choices.fits c.if-choices-eq0.false c.lowest-pick.ensures c.remove-others.ensures), tt)
+    let same = same_after c.args.room.now c.visit.new.room c.visit.auto.room in
+    let less = fewer _ _ _ c.ranges.choices.fits c.if-choices-eq0.false c.lowest-pick.ensures c.remove-others.ensures in
+    (omega arith, tt)
 
 pub choose-returns-else-others-eq0 : goal.choose-returns-else-others-eq0
 choose-returns-else-others-eq0 t c =
