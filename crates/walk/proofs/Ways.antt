@@ -48,6 +48,26 @@ trying n s set body room = tried (service n) (deeper n (length room / 2) s) (cho
 abbrev pub Hands : ℕ → Walked Event → List ℕ → Result Seen Stop → List ℕ → Type 0
 Hands b w room seen last = record { result : seen ≡ left_of b w; room : last ≡ room_after b w room }
 
+-- whatever a walk comes to is handed back
+hand : (b : ℕ) (w x : Walked Event) (room : List ℕ) (seen : Result Seen Stop) (last : List ℕ) → w ≡ x → left_of b x ≡ seen → last ≡ room_after b x room → Hands b w room seen last
+hand b w x room seen last e g h = record { result = sym (ap (left_of b) e ∙ g); room = h ∙ ap (λ (y : Walked Event). room_after b y room) (sym e) }
+
+-- no end comes back: the room is as it was
+hand_endless : (b : ℕ) (w x : Walked Event) (room : List ℕ) (seen : Result Seen Stop) → w ≡ x → Endless seen → left_of b x ≡ seen → Hands b w room seen room
+hand_endless b w x room seen e q g = hand b w x room seen room e g (sym (room_kept b x room (subst Endless (sym g) q)))
+
+-- the walk of a choice's child
+abbrev pub child : ℕ → State → ℕ → List ℕ → List ℕ → Walked Event
+child n s pick body room = deeper n (length room / 2) s (slot pick (observation_of (record_at body 0)) (observations (drop 12 body)))
+
+-- A choice's child has been visited: what that handed back, and what it left of its part of the room. What is left to try
+-- are the other choices.
+pub record Visited (n b set : ℕ) (s : State) (body room : List ℕ) (pick : ℕ) (seen : Result Seen Stop) (last : List ℕ) : Type 0 where
+  pub room_left : 2 ≤ length room
+  pub whole : trying n s set body room ≡ or_else (service n) (event_of pick (observation_of (record_at body 0))) (child n s pick body room) (trying n s (remove 64 set pick) body room)
+  pub is_seen : seen ≡ left_of b (child n s pick body room)
+  pub is_last : last ≡ room_after b (child n s pick body room) (drop 2 room)
+
 module _ (n b set : ℕ) (s : State) (body room : List ℕ) where
   -- nothing to try
   nothing_tried : trying n s set body room ≡ endless 0 → Hands b (trying n s set body room) room (no_end b) room
@@ -61,103 +81,79 @@ module _ (n b set : ℕ) (s : State) (body room : List ℕ) where
   no_choice h = nothing_tried (none_to_try n (length room / 2) set s (observations body) h)
 
   module _ (long : 12 ≤ length body) (fits : set < 2 ^ 64) (some : set ≡ 0 → ⊥) where
-    p : ℕ
-    p = lowest 64 set
+    first_then_rest : trying n s set body room
+        ≡ or_else (service n) (event_of (lowest 64 set) (observation_of (record_at body 0))) (child n s (lowest 64 set) body room) (trying n s (remove 64 set (lowest 64 set)) body room)
+    first_then_rest = lowest_tried n (length room / 2) set s body long fits (omega arith)
 
-    o : Observation
-    o = observation_of (record_at body 0)
-
-    child : Walked Event
-    child = deeper n (length room / 2) s (slot (lowest 64 set) (observation_of (record_at body 0)) (observations (drop 12 body)))
+    -- the event of the lowest choice, and the walk of the others
+    first : Event
+    first = event_of (lowest 64 set) (observation_of (record_at body 0))
 
     rest : Walked Event
     rest = trying n s (remove 64 set (lowest 64 set)) body room
 
-    first_then_rest : trying n s set body room ≡ or_else (service n) (event_of p o) child rest
-    unfolding p o child rest
-    first_then_rest = lowest_tried n (length room / 2) set s body long fits (omega arith)
-
-    -- whatever the whole comes to, it is handed back
-    hand : (seen : Result Seen Stop) (last : List ℕ) → left_of b (or_else (service n) (event_of p o) child rest) ≡ seen
-        → last ≡ room_after b (or_else (service n) (event_of p o) child rest) room → Hands b (trying n s set body room) room seen last
-    hand seen last e g =
-        record { result = sym (ap (left_of b) first_then_rest ∙ e); room = g ∙ ap (λ (w : Walked Event). room_after b w room) (sym first_then_rest) }
-
-    -- no end comes back: the room is as it was
-    hand_endless : (seen : Result Seen Stop) → Endless seen → left_of b (or_else (service n) (event_of p o) child rest) ≡ seen → Hands b (trying n s set body room) room seen room
-    hand_endless seen q e =
-        hand seen room e (sym (room_kept b (or_else (service n) (event_of p o) child rest) room (subst Endless (sym e) q)))
-
     pub budget_spent : b ≡ 0 → Hands b (trying n s set body room) room (Err Spent) room
-    unfolding child
+    unfolding first rest
     budget_spent z =
-        hand_endless (Err Spent) tt
-        (ap (λ (x : ℕ). left_of x (or_else (service n) (event_of p o) child rest)) z ∙ nothing_left n (event_of p o) child rest (deeper_some n (length room / 2) s _))
+        hand_endless b _ _ room (Err Spent) first_then_rest tt
+        (ap (λ (x : ℕ). left_of x (or_else (service n) first (child n s (lowest 64 set) body room) rest)) z
+        ∙ nothing_left n first (child n s (lowest 64 set) body room) rest (deeper_some n (length room / 2) s _))
 
     pub no_room : (b ≡ 0 → ⊥) → length room < 2 → Hands b (trying n s set body room) room (Err Deep) room
-    unfolding child
+    unfolding first rest
     no_room z m =
-        hand_endless (Err Deep) tt
-        (ap (λ (w : Walked Event). left_of b (or_else (service n) (event_of p o) w rest)) (child_deep n s _ room m) ∙ too_deep n b (event_of p o) rest (omega arith))
+        hand_endless b _ _ room (Err Deep) first_then_rest tt
+        (ap (λ (w : Walked Event). left_of b (or_else (service n) first w rest)) (child_deep n s _ room m) ∙ too_deep n b first rest (omega arith))
 
-    -- the child has been visited: what it handed back, and what it left of its part of the room
-    module _ (left : b ≡ 0 → ⊥) (room_left : 2 ≤ length room) (pick skip : ℕ) (next : State) (seen : Result Seen Stop) (last : List ℕ)
-        (is_pick : pick ≡ lowest 64 set)
-        (is_next : next ≡ then s (event_of pick (observation_of (record_at body 0))))
-        (is_skip : skip ≡ cond (eqb pick 0) 12 0)
-        (seen_is : seen ≡ left_of (b - 1 + 1) (walked (service n) (length (take (length room - 2) (drop 2 room)) / 2) next (observations (take (length body - skip) (drop skip body)))))
-        (last_is : last ≡ room_after (b - 1 + 1) (walked (service n) (length (take (length room - 2) (drop 2 room)) / 2) next (observations (take (length body - skip) (drop skip body)))) (take (length room - 2) (drop 2 room))) where
-      the_child : walked (service n) (length (take (length room - 2) (drop 2 room)) / 2) next (observations (take (length body - skip) (drop skip body))) ≡ child
-      unfolding child
-      the_child =
-          rw (to_end room 2, to_end body skip, is_next)
-          (sym (ap (λ (x : ℕ). deeper n (length room / 2) s (slot x (observation_of (record_at body 0)) (observations (drop 12 body)))) (sym is_pick)
-          ∙ child_walk n pick skip s body room long room_left is_skip))
+    -- the child of the lowest choice has been visited, in the part of the room behind two bytes
+    pub visited : (b ≡ 0 → ⊥) → 2 ≤ length room → (pick skip : ℕ) (next : State) (seen : Result Seen Stop) (last : List ℕ)
+        → pick ≡ lowest 64 set → next ≡ then s (event_of pick (observation_of (record_at body 0))) → skip ≡ cond (eqb pick 0) 12 0
+        → seen ≡ left_of (b - 1 + 1) (walked (service n) (length (take (length room - 2) (drop 2 room)) / 2) next (observations (take (length body - skip) (drop skip body))))
+        → last ≡ room_after (b - 1 + 1) (walked (service n) (length (take (length room - 2) (drop 2 room)) / 2) next (observations (take (length body - skip) (drop skip body)))) (take (length room - 2) (drop 2 room))
+        → Visited n b set s body room pick seen last
+    visited left room_left pick skip next seen last is_pick is_next is_skip seen_is last_is =
+        let counted : b - 1 + 1 ≡ b = omega arith in
+        let the_child : walked (service n) (length (take (length room - 2) (drop 2 room)) / 2) next (observations (take (length body - skip) (drop skip body))) ≡ child n s pick body room =
+        rw (to_end room 2, to_end body skip, is_next) (sym (child_walk n pick skip s body room long room_left is_skip)) in
+        record {
+          room_left = room_left;
+          whole = first_then_rest ∙ ap (λ (x : ℕ). or_else (service n) (event_of x (observation_of (record_at body 0))) (child n s x body room) (trying n s (remove 64 set x) body room)) (sym is_pick);
+          is_seen = seen_is ∙ ap₂ left_of counted the_child;
+          is_last = last_is ∙ rw (counted, the_child, to_end room 2);
+        }
 
-      counted : b - 1 + 1 ≡ b
-      counted = omega arith
+module _ (n b set : ℕ) (s : State) (body room : List ℕ) (pick : ℕ) (seen : Result Seen Stop) (last : List ℕ) (v : Visited n b set s body room pick seen last) where
+  -- the whole room after the visit
+  abbrev after_visit : List ℕ
+  after_visit = take 2 room ++ (last ++ drop (length room - 2) (drop 2 room))
 
-      child_seen : seen ≡ left_of b child
-      child_seen = seen_is ∙ ap₂ left_of counted the_child
+  put : after_visit ≡ take 2 room ++ room_after b (child n s pick body room) (drop 2 room)
+  put = put_back room last 2 ∙ ap (λ (l : List ℕ). take 2 room ++ l) v.is_last
 
-      child_last : last ≡ room_after b child (drop 2 room)
-      child_last = last_is ∙ rw (counted, the_child, to_end room 2)
+  same_room : Endless seen → after_visit ≡ room
+  same_room q = put ∙ ap (λ (l : List ℕ). take 2 room ++ l) (room_kept b (child n s pick body room) (drop 2 room) (subst Endless v.is_seen q)) ∙ take-append-drop 2 room
 
-      -- the whole room after the visit
-      abbrev after_visit : List ℕ
-      after_visit = take 2 room ++ (last ++ drop (length room - 2) (drop 2 room))
+  pub end_found : (e : Seen) (k : ℕ) (bytes : List ℕ) → seen ≡ Ok e → e.events ≡ Some k → bytes ≡ event_bytes (event_of pick (observation_of (record_at body 0)))
+      → Hands b (trying n s set body room) room (an_end e.left (k + 1)) (bytes ++ drop 2 after_visit)
+  end_found e k bytes is_ok is_end is_bytes =
+      let c = sym v.is_seen ∙ is_ok ∙ an_end_is e k is_end in
+      hand b _ _ room _ _ v.whole (step_found n b e.left k _ _ _ c)
+      (ap₂ (λ (bs r : List ℕ). bs ++ drop 2 r) is_bytes put ∙ room_found n b e.left k _ _ _ room c v.room_left)
 
-      put : after_visit ≡ take 2 room ++ room_after b child (drop 2 room)
-      put = put_back room last 2 ∙ ap (λ (l : List ℕ). take 2 room ++ l) child_last
+  pub others_tried : (e : Seen) (others : ℕ) (final_seen : Result Seen Stop) (final : List ℕ) → seen ≡ Ok e → e.events ≡ None → others ≡ remove 64 set pick
+      → Hands e.left (trying n s others body after_visit) after_visit final_seen final → Hands b (trying n s set body room) room final_seen final
+  others_tried e others final_seen final is_ok is_none q h =
+      let is = is_ok ∙ no_end_is e is_none in
+      let c = sym v.is_seen ∙ is in
+      let r = same_room (subst Endless (sym is) refl) in
+      let w : trying n s others body after_visit ≡ trying n s (remove 64 set pick) body room = ap₂ (λ (x : ℕ) (y : List ℕ). trying n s x body y) q r in
+      hand b _ _ room final_seen final v.whole (step_none n b e.left _ _ _ c ∙ ap (left_of e.left) (sym w) ∙ sym h.result)
+      (h.room ∙ ap₂ (room_after e.left) w r ∙ sym (step_none_room n b e.left _ _ _ room c))
 
-      pub same_room : Endless seen → after_visit ≡ room
-      same_room q = put ∙ ap (λ (l : List ℕ). take 2 room ++ l) (room_kept b child (drop 2 room) (subst Endless child_seen q)) ∙ take-append-drop 2 room
-
-      pub end_found : (v : Seen) (k : ℕ) (bytes : List ℕ) → seen ≡ Ok v → v.events ≡ Some k
-          → bytes ≡ event_bytes (event_of pick (observation_of (record_at body 0)))
-          → Hands b (trying n s set body room) room (an_end v.left (k + 1)) (bytes ++ drop 2 after_visit)
-      unfolding p o
-      end_found v k bytes is_ok is_end is_bytes =
-          let c = sym child_seen ∙ is_ok ∙ an_end_is v k is_end in
-          hand (an_end v.left (k + 1)) _ (step_found n b v.left k (event_of p o) child rest c)
-          (ap₂ (λ (bs r : List ℕ). bs ++ drop 2 r) (is_bytes ∙ ap (λ (x : ℕ). event_bytes (event_of x (observation_of (record_at body 0)))) is_pick) put
-          ∙ room_found n b v.left k (event_of p o) child rest room c room_left)
-
-      pub others_tried : (v : Seen) (others : ℕ) (whole : Result Seen Stop) (final : List ℕ) → seen ≡ Ok v → v.events ≡ None → others ≡ remove 64 set pick
-          → Hands v.left (trying n s others body after_visit) after_visit whole final → Hands b (trying n s set body room) room whole final
-      unfolding p o rest
-      others_tried v others whole final is_ok is_none q h =
-          let e = is_ok ∙ no_end_is v is_none in
-          let c = sym child_seen ∙ e in
-          let r = same_room (subst Endless (sym e) refl) in
-          let w : trying n s others body after_visit ≡ rest = ap₂ (λ (x : ℕ) (y : List ℕ). trying n s x body y) (q ∙ ap (remove 64 set) is_pick) r in
-          hand whole final (step_none n b v.left (event_of p o) child rest c ∙ ap (left_of v.left) (sym w) ∙ sym h.result)
-          (h.room ∙ ap₂ (room_after v.left) w r ∙ sym (step_none_room n b v.left (event_of p o) child rest room c))
-
-      pub stopped_on : (stop : Stop) → seen ≡ Err stop → Hands b (trying n s set body room) room (Err stop) after_visit
-      stopped_on stop e =
-          let g = hand_endless (Err stop) tt (step_stopped n b stop (event_of p o) child rest (sym child_seen ∙ e)) in
-          record { result = g.result; room = same_room (subst Endless (sym e) tt) ∙ g.room }
+  pub stopped_on : (stop : Stop) → seen ≡ Err stop → Hands b (trying n s set body room) room (Err stop) after_visit
+  stopped_on stop e =
+      let g = hand_endless b _ _ room (Err stop) v.whole tt (step_stopped n b stop _ _ _ (sym v.is_seen ∙ e)) in
+      record { result = g.result; room = same_room (subst Endless (sym e) tt) ∙ g.room }
 
 -- no choice is left after a child without an end, whose answer is handed back
 pub nothing_more : (n set : ℕ) (s : State) (body room : List ℕ) (v : Seen) → v.events ≡ None → set ≡ 0
