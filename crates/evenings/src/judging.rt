@@ -4,8 +4,8 @@ use cases::Case;
 use tracefile::Numbered;
 use verdict::{Refusal, Verdict};
 
-// A status, 0 explained, 1 unexplained, 2 undecided, or 10 plus the number of a refusal; then points, events and place, 0
-// where there is none.
+// What is compared: a status, 0 explained, 1 unexplained, 2 undecided, or 10 plus the number of a refusal; then points, events
+// and place, 0 where there is none. They are numbers and no enum, since the head of a packed case has them so.
 #[derive(Clone, Copy, Debug, PartialEq, Eq, Default)]
 struct Answer {
     status: u32,

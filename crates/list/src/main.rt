@@ -4,7 +4,7 @@
 
 use tracefile::Refusal;
 
-// The process's input and output.
+// The process's input and output, through a library that rests on no more of the C library than its `read` and `write`.
 const STDIN: i32 = 0;
 
 const STDOUT: i32 = 1;

@@ -1,6 +1,6 @@
 // The head of a case: 15 numbers, and what stands in each. The first is the length of the whole case (`cases`).
 
-// The kind of the case.
+// The kind of the case: one of the two numbers below, which are only compared with it.
 pub const KIND: usize = 4;
 
 pub const READER: u32 = 1;

@@ -3,8 +3,8 @@ use crate::case;
 use cases::Case;
 use writer::Unwritten;
 
-// A refusal by its number in the specification, and its place, 0 and 0 where there is none; then the length of the file, 0
-// where there is none.
+// What is compared: a refusal by its number in the specification, and its place, 0 and 0 where there is none; then the length of
+// the file, 0 where there is none. They are numbers, since the head of a packed case has them so.
 #[derive(Clone, Copy, Debug, PartialEq, Eq)]
 struct Answer {
     refusal: u32,
