@@ -8,18 +8,12 @@ mod writing;
 use std::fs::File;
 use std::io;
 
-// Runs the cases of a group, which stand in the file of that name.
-fn run_group(rt: &HostRuntime, group: &str) -> io::Result<()> {
-    let mut source = File::open(rt, group)?;
-    cases::run(rt, &mut source, group, case::NAME, |case| {
-        Some(writing::agrees(case))
-    })?;
-    Ok(())
-}
-
 fn main(rt: HostRuntime) -> io::Result<()> {
     for group in ["worked", "copied"] {
-        run_group(&rt, group)?;
+        let mut source = File::open(&rt, group)?;
+        cases::run(&rt, &mut source, group, case::NAME, |case| {
+            Some(writing::agrees(case))
+        })?;
     }
     Ok(())
 }

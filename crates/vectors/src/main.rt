@@ -5,7 +5,7 @@ mod case;
 mod reading;
 mod writing;
 
-use cases::Case;
+use cases::{Case, Tally};
 use std::fs::File;
 use std::io;
 
@@ -15,7 +15,7 @@ fn run_kind<F: Fn(Case<'_>) -> bool>(
     group: &str,
     kind: u32,
     agrees: F,
-) -> io::Result<()>
+) -> io::Result<Tally>
     requires { F.IsAlwaysCallable agrees }
 {
     let mut source = File::open(rt, "cases")?;
@@ -25,11 +25,11 @@ fn run_kind<F: Fn(Case<'_>) -> bool>(
         } else {
             None
         }
-    })?;
-    Ok(())
+    })
 }
 
 fn main(rt: HostRuntime) -> io::Result<()> {
     run_kind(&rt, "reader", case::READER, reading::agrees)?;
-    run_kind(&rt, "writer", case::WRITER, writing::agrees)
+    run_kind(&rt, "writer", case::WRITER, writing::agrees)?;
+    Ok(())
 }
