@@ -37,7 +37,8 @@ pub fn local_value(local: [u8; 8], tablet: u8) -> u8
     local.get(at).copied().unwrap_or(0)
 }
 
-// The local values with a tablet's put in its place. A number that is no tablet's changes nothing.
+// The local values with a tablet's put in its place. A number that is no tablet's changes nothing. The place is tested by hand:
+// with `get_mut` the proof stays open.
 pub fn stored(local: [u8; 8], tablet: u8, value: u8) -> [u8; 8]
     ensures { result ≡ set local (seat tablet) value }
 {
@@ -79,7 +80,8 @@ fn settled(fresh: u8, dirty: u8, tablet: u8) -> bool
     marked(fresh, tablet) & !marked(dirty, tablet)
 }
 
-// Whether every tablet is fresh and clean, asked of one tablet after the other up to the first that is not.
+// Whether every tablet is fresh and clean, asked of one tablet after the other up to the first that is not. The library's lemmas
+// on chains are for a range without its end.
 pub fn all_settled(n: u8, fresh: u8, dirty: u8) -> bool
     ensures { result ≡ all_fresh_and_clean n fresh dirty }
 {

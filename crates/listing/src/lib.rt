@@ -10,7 +10,7 @@ ghost use Rattle.listing.specs.Positions.{position, left, Gives};
 
 use records::Record;
 
-#[derive(Clone, Copy)]
+#[derive(Clone, Copy, Debug, PartialEq, Eq)]
 pub struct Listing<'a> {
     pub body: &'a [u8],
     pub at: usize,

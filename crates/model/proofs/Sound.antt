@@ -9,7 +9,6 @@ use Prim.Native.Nat.{ℕ, zero, suc, ◌≤◌, ◌<◌, suc-le-suc}
 use native.Mathlib.Omega.{arith}
 use lib.ListN.{length}
 use Rattle.std.proofs.lemmas.Bool.{and_parts}
-pub use Rattle.std.proofs.lemmas.Bool.{and_parts as and_true}
 use Rattle.model.specs.Walk.{Service, Lawful, Choice, Explains, possible, trace, children, Walked, found, endless, stopped, after, or_else, tried, visited, walked, needed}
 use Rattle.model.proofs.Children.{Child, child, a_child}
 

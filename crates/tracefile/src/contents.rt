@@ -31,7 +31,7 @@ fn entry_at(i: u8) -> u32
 }
 
 // What the head of a file says: how many tablets and values it speaks of, and how many bodies it has.
-#[derive(Clone, Copy)]
+#[derive(Clone, Copy, Debug, PartialEq, Eq)]
 pub struct Head {
     pub limits: Limits,
     pub bodies: u8,
