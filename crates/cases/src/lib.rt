@@ -1,9 +1,11 @@
-// Cases for the test programs, packed one after the other into bytes. A case is a head of numbers, 4 bytes each, least byte
-// first, and then its parts. The first number is the length of the whole case; for a part the head has two numbers, where it
-// starts in the case and its length. What is not there is 0, or empty. The file that they stand in is read here too.
+// Cases for the test programs, packed one after the other into bytes. A case is a head of numbers, 4 bytes each, least
+// byte first, and then its parts. The first number is the length of the whole case; for a part the head has two
+// numbers, where it starts in the case and its length. What is not there is 0, or empty. Here a file of them is read,
+// and a test is tried on each.
 #![tactic(auto)]
 
-ghost use Rattle.std.specs.Prelude.{◌≡◌, ℕ, ◌<◌, ◌≤◌, ◌++◌, EachIndex, IfOk, List, Some, codes, drop, length, slice_index, take};
+ghost use Rattle.std.specs.Prelude.{◌≡◌, ℕ, ◌<◌, ◌≤◌, ◌++◌, EachIndex, IfOk, List, Some, codes};
+ghost use Rattle.std.specs.Prelude.{drop, length, slice_index, take};
 ghost use Rattle.std.specs.Fmt.{decimal};
 ghost use Rattle.std.specs.Io.KnownBytes.{Consumes, IsAtEnd};
 ghost use Rattle.std.specs.Iterator.{YieldsFirstBy, item_count};
@@ -118,9 +120,9 @@ pub fn filled<const N: usize>() -> [u8; N]
     [PATTERN; N]
 }
 
-// Reads until the room is full or there is no more, and says how many bytes came: they stand at the front, in the order in
-// which the reader had them. A read that fails ends it. It counts what has come by hand, since a read brings as much as it likes:
-// std's `read_to_end` fills a Vec, and its `read_exact` fails where less comes than there is room for.
+// Reads until the room is full or there is no more, and says how many bytes came: they stand at the front, in the order
+// in which the reader had them. A read that fails ends it. It counts what has come by hand, since a read brings as much
+// as it likes: std's `read_to_end` fills a Vec, and its `read_exact` fails where less comes than there is room for.
 pub fn read_full<R: Read>(reader: &mut R, room: &mut [u8]) -> io::Result<usize>
     ensures same_length { length room.new ≡ length room.old }
     ensures within { IfOk result (λ n. n ≤ length room.new) }
@@ -160,8 +162,8 @@ fn say_name(rt: &impl Print, group: &str, name: &[u8]) -> io::Result<()> {
     println!(rt; " differs")
 }
 
-// Tries a test on packed cases, in their order, and says the name of each that differs. The test says whether a case agrees, and
-// nothing of a case that is none of its own. A call of it needs that it may be called.
+// Tries a test on packed cases, in their order, and says the name of each that differs. The test says whether a case
+// agrees, and nothing of a case that is none of its own. A call of it needs that it may be called.
 fn run_packed<R: Print, F: Fn(Case<'_>) -> Option<bool>>(
     rt: &R,
     group: &str,
@@ -188,9 +190,9 @@ fn run_packed<R: Print, F: Fn(Case<'_>) -> Option<bool>>(
     Ok(tally)
 }
 
-// Reads packed cases, tries a test on them, and says the name of each that differs, and then in one line how many there are and
-// how many differ. The name of a case is the part that its head names at a place. The test is as above, and so is the only thing
-// that is asked of a caller: that it may be called.
+// Reads packed cases, tries a test on them, and says the name of each that differs, and then in one line how many there
+// are and how many differ. The name of a case is the part that its head names at a place. The test is as above, and so
+// is the only thing that is asked of a caller: that it may be called.
 pub fn run<R: Print, S: Read, F: Fn(Case<'_>) -> Option<bool>>(
     rt: &R,
     source: &mut S,

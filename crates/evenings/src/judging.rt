@@ -4,8 +4,8 @@ use cases::Case;
 use tracefile::Numbered;
 use verdict::{Refusal, Verdict};
 
-// What is compared: a status, 0 explained, 1 unexplained, 2 undecided, or 10 plus the number of a refusal; then points, events
-// and place, 0 where there is none. They are numbers and no enum, since the head of a packed case has them so.
+// What is compared: a status, 0 explained, 1 unexplained, 2 undecided, or 10 plus the number of a refusal; then points,
+// events and place, 0 where there is none. They are numbers and no enum, since the head of a packed case has them so.
 #[derive(Clone, Copy, Debug, PartialEq, Eq, Default)]
 struct Answer {
     status: u32,
@@ -65,7 +65,7 @@ fn judges(case: Case<'_>, room: &mut [u8]) -> bool {
     answer == Answer::from(case) && cases::stands(case.held(case::EVENTS), room)
 }
 
-// Whether the call does what a case expects, with as much room as the case says, of which there is enough for every case.
+// Whether the call does what a case expects, in as much room as the case says; no case says more than there is here.
 pub fn agrees(case: Case<'_>) -> bool {
     let mut room = cases::filled::<8192>();
     match room.get_mut(..case.number(case::ROOM) as usize) {

@@ -1,5 +1,5 @@
-// Asks whether evenings can be explained, compares answers and rooms with what is expected, and says how many differ, and
-// which. Each group of cases is a file of its own.
+// Asks whether evenings can be explained, compares answers and rooms with what is expected, and says how many differ,
+// and which. Each group of cases is a file of its own.
 #![tactic(auto)]
 
 mod case;

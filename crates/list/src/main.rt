@@ -1,5 +1,5 @@
-// Lists one file from standard input: for each trace its number, and then its records, one to a line. A refused file has the
-// single line of its refusal.
+// Lists one file from standard input: for each trace its number, and then its records, one to a line. A refused file
+// has the single line of its refusal.
 #![tactic(auto)]
 
 use tracefile::Refusal;

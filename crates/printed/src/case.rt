@@ -9,8 +9,8 @@ pub const GIVEN: usize = 12;
 // A part: the text expected.
 pub const TEXT: usize = 20;
 
-// What is asked for: 1 the text for a file, 2 the line of an answer, 3 the line of events, 4 the line of a refused file, 5 the
-// line of a record, 6 the line that opens a listing.
+// What is asked for: 1 the text for a file, 2 the line of an answer, 3 the line of events, 4 the line of a refused
+// file, 5 the line of a record, 6 the line that opens a listing.
 pub const KIND: usize = 28;
 
 // The length of the bytes lent for the text.

@@ -1,5 +1,5 @@
-// Writes the texts and lines that people read, compares them with what is expected, and says how many differ, and which.
-// Each group of cases is a file of its own.
+// Writes the texts and lines that people read, compares them with what is expected, and says how many differ, and
+// which. Each group of cases is a file of its own.
 #![tactic(auto)]
 
 mod case;

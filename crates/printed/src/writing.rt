@@ -86,7 +86,7 @@ fn writes(case: Case<'_>, out: &mut [u8]) -> bool {
     write(case, out) == text.len() && cases::stands(text, out)
 }
 
-// Whether what is written is what a case expects, with as much room as the case says, of which there is enough for every case.
+// Whether what is written is what a case expects, in as much room as the case says; no case says more than is here.
 pub fn agrees(case: Case<'_>) -> bool {
     let mut room = cases::filled::<131072>();
     match room.get_mut(..case.number(case::ROOM) as usize) {

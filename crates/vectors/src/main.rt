@@ -9,7 +9,7 @@ use cases::{Case, Tally};
 use std::fs::File;
 use std::io;
 
-// Runs the cases of a kind, which stand in one file with those of the other. A call of the test needs that it may be called.
+// Runs the cases of a kind; both kinds stand in one file. A call of the test needs that it may be called.
 fn run_kind<F: Fn(Case<'_>) -> bool>(
     rt: &HostRuntime,
     group: &str,

@@ -3,8 +3,8 @@ use crate::case;
 use cases::Case;
 use writer::Unwritten;
 
-// What is compared: a refusal by its number in the specification, and its place, 0 and 0 where there is none; then the length of
-// the file, 0 where there is none. They are numbers, since the head of a packed case has them so.
+// What is compared: a refusal by its number in the specification, and its place, 0 and 0 where there is none; then the
+// length of the file, 0 where there is none. They are numbers, since the head of a packed case has them so.
 #[derive(Clone, Copy, Debug, PartialEq, Eq)]
 struct Answer {
     refusal: u32,
@@ -73,8 +73,8 @@ fn counts_of(case: Case<'_>) -> [u32; 32] {
     counts
 }
 
-// Whether the writer does what a case expects, with as many counts and as much room as the case says, of which there is enough
-// for every case.
+// Whether the writer does what a case expects, with as many counts and as much room as the case says; no case says more
+// than there is here.
 pub fn agrees(case: Case<'_>) -> bool {
     let counts = counts_of(case);
     let mut room = cases::filled::<65536>();
