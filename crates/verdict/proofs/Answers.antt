@@ -1,8 +1,9 @@
 -- Any two answers that the contract of `verdict::explain` allows for one input are equal, and so are the rooms that go with
--- them: no two cases of an answer have the same number and values.
+-- them: no two cases of an answer have the same number and values. So are any two results of its conversions.
 -- Assumes nothing.
 use mathlib.Core.Bool.{cond}
-use mathlib.Core.Path.{◌≡◌, refl, sym, ap, ◌∙◌}
+use mathlib.Core.Path.{◌≡◌, refl, sym, ap, ap₂, ◌∙◌}
+use Prim.Native.Nat.{ℕ}
 use contract.Lifetimes.{Lfts}
 use denote.Triple.Clauses.{AtExit}
 use borrow.Fn.Kinds.{Dens, res_t, ended_of}
@@ -14,6 +15,12 @@ use Rattle.verdict.specs.declared.Verdict.{Verdict}
 use Rattle.verdict.specs.declared.Verdict.TheVariants.{Explained, Unexplained, Undecided}
 use Rattle.verdict.specs.declared.Refusal.{Refusal}
 use Rattle.verdict.specs.declared.Refusal.TheVariants.{File, NoRoom, TooDeep}
+use Rattle.marks.proofs.Single.{Single}
+use Rattle.tracefile.specs.declared.Numbered.{Numbered}
+use Rattle.verdict.proofs.RefusalFromTracefileRefusal.from.Kinds as of_file_kinds
+use Rattle.verdict.proofs.RefusalFromTracefileRefusal.from.Reads as of_file_reads
+use Rattle.verdict.proofs.NumberedFromRefusal.from.Kinds as numbered_kinds
+use Rattle.verdict.proofs.NumberedFromRefusal.from.Reads as numbered_reads
 use Rattle.verdict.proofs.explain.Kinds as kinds
 use Rattle.verdict.proofs.explain.Reads as reads
 
@@ -58,3 +65,28 @@ explain : (κs : Lfts 2) (a : Dens κs kinds.ps) (x y : (res_t kinds.r κs).Deno
     → reads.Learnt κs a x e → reads.Learnt κs a y f
     → (x ≡ y) × (e.1.1.1.0.now ≡ f.1.1.1.0.now)
 explain κs a x y e f p q = (told_once x y (p.0 ∙ sym q.0), p.1 ∙ sym q.1)
+
+-- one refusal for each refusal of a file, and one number and place for each refusal
+of_file : Single 0 of_file_kinds.ps of_file_kinds.r of_file_reads.Learnt
+of_file κs a x y e f p q = p ∙ sym q
+
+number_in : Said → ℕ
+number_in (explained_by k m) = 0
+number_in (unexplained_in k) = 0
+number_in (undecided_at b) = 0
+number_in (refused number place) = number
+
+place_in : Said → ℕ
+place_in (explained_by k m) = 0
+place_in (unexplained_in k) = 0
+place_in (undecided_at b) = 0
+place_in (refused number place) = place
+
+with_numbers : ℕ → ℕ → Numbered
+with_numbers number place = record { number = number; place = place }
+
+numbered : Single 0 numbered_kinds.ps numbered_kinds.r numbered_reads.Learnt
+unfolding number_in place_in with_numbers
+numbered κs a x y e f p q =
+    let h : refused x.number x.place ≡ refused y.number y.place = p ∙ sym q in
+    ap₂ with_numbers (ap number_in h) (ap place_in h)
