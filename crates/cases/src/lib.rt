@@ -4,11 +4,12 @@
 // and a test is tried on each.
 #![tactic(auto)]
 
-ghost use Rattle.std.specs.Prelude.{◌≡◌, ℕ, ◌<◌, ◌≤◌, ◌++◌, EachIndex, IfOk, List, Some, codes};
-ghost use Rattle.std.specs.Prelude.{drop, length, slice_index, take};
+ghost use Rattle.std.specs.Prelude.{◌≡◌, ℕ, ◌<◌, ◌≤◌, ◌++◌, Bool, EachIndex, IfOk, List, Option, Some, codes};
+ghost use Rattle.std.specs.Prelude.{drop, length, slice_index, take, ⊤};
 ghost use Rattle.std.specs.Fmt.{decimal};
 ghost use Rattle.std.specs.Io.KnownBytes.{Consumes, IsAtEnd};
 ghost use Rattle.std.specs.Iterator.{YieldsFirstBy, item_count};
+ghost use Rattle.cases.specs.declared.Case.{Case};
 ghost use Rattle.cases.specs.Seen.{packed_of, cases_left};
 ghost use Rattle.cases.specs.Tallied.{Tallies};
 ghost use Rattle.cases.specs.Packed.{cases_in, number_at, part_at, held_at, pattern, stands_in};
@@ -162,24 +163,33 @@ fn say_name(rt: &impl Print, group: &str, name: &[u8]) -> io::Result<()> {
     println!(rt; " differs")
 }
 
-// Tries a test on packed cases, in their order, and says the name of each that differs. The test says whether a case
-// agrees, and nothing of a case that is none of its own. A call of it needs that it may be called.
-fn run_packed<R: Print, F: Fn(Case<'_>) -> Option<bool>>(
+// A test of cases. It is a trait and no closure: a closure may ask something of its caller, and `run` would have to ask it of
+// its own.
+pub trait Test {
+    // What the test may say of a case.
+    ghost says: { Self → Case → Option Bool → Type 0 } = { λ _ _ _. ⊤ };
+
+    // Whether a case agrees with what is expected, and nothing of a case that is none of its own.
+    fn agrees(&self, case: Case<'_>) -> Option<bool>
+        ensures { says self.now case.entry result };
+}
+
+// Tries a test on packed cases, in their order, and says the name of each that differs.
+fn run_packed<R: Print, T: Test>(
     rt: &R,
     group: &str,
     name: usize,
     packed: &[u8],
-    agrees: F,
+    test: &T,
 ) -> io::Result<Tally>
-    requires { F.IsAlwaysCallable agrees }
-    ensures { IfOk result (λ tally. Tallies (F.post agrees) (cases_in packed.now) tally) }
+    ensures { IfOk result (λ tally. Tallies (T.says test.now) (cases_in packed.now) tally) }
 {
     let mut tally = Tally {
         cases: 0,
         differ: 0,
     };
     for case in (Cases { rest: packed }) {
-        let answer = agrees(case);
+        let answer = test.agrees(case);
         let differs = answer == Some(false);
         if differs {
             say_name(rt, group, case.held(name))?;
@@ -191,24 +201,22 @@ fn run_packed<R: Print, F: Fn(Case<'_>) -> Option<bool>>(
 }
 
 // Reads packed cases, tries a test on them, and says the name of each that differs, and then in one line how many there
-// are and how many differ. The name of a case is the part that its head names at a place. The test is as above, and so
-// is the only thing that is asked of a caller: that it may be called.
-pub fn run<R: Print, S: Read, F: Fn(Case<'_>) -> Option<bool>>(
+// are and how many differ. The name of a case is the part that its head names at a place.
+pub fn run<R: Print, S: Read, T: Test>(
     rt: &R,
     source: &mut S,
     group: &str,
     name: usize,
-    agrees: F,
+    test: &T,
 ) -> io::Result<Tally>
-    requires { F.IsAlwaysCallable agrees }
     ensures { IfOk result (λ tally. (packed : List ℕ)
         × Consumes (S.remaining source.old) (S.remaining source.new) packed
         × (length packed < ROOM → IsAtEnd (S.remaining source.new))
-        × Tallies (F.post agrees) (cases_in packed) tally) }
+        × Tallies (T.says test.now) (cases_in packed) tally) }
 {
     let mut room = filled::<ROOM>();
     let length = read_full(source, &mut room)?;
-    let tally = run_packed(rt, group, name, &room[..length], agrees)?;
+    let tally = run_packed(rt, group, name, &room[..length], test)?;
     println!(rt; "{group}: {tally}")?;
     Ok(tally)
 }

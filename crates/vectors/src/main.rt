@@ -5,31 +5,32 @@ mod case;
 mod reading;
 mod writing;
 
-use cases::{Case, Tally};
+use cases::{Case, Test};
 use std::fs::File;
 use std::io;
 
-// Runs the cases of a kind; both kinds stand in one file. A call of the test needs that it may be called.
-fn run_kind<F: Fn(Case<'_>) -> bool>(
-    rt: &HostRuntime,
-    group: &str,
-    kind: u32,
-    agrees: F,
-) -> io::Result<Tally>
-    requires { F.IsAlwaysCallable agrees }
-{
-    let mut source = File::open(rt, "cases")?;
-    cases::run(rt, &mut source, group, case::NAME, |case| {
-        if case.number(case::KIND) == kind {
-            Some(agrees(case))
-        } else {
-            None
+// Which cases are run: those of both kinds stand in one file.
+#[derive(Clone, Copy)]
+enum Kind {
+    Reader,
+    Writer,
+}
+
+impl Test for Kind {
+    fn agrees(&self, case: Case<'_>) -> Option<bool> {
+        let kind = case.number(case::KIND);
+        match self {
+            Kind::Reader if kind == case::READER => Some(reading::agrees(case)),
+            Kind::Writer if kind == case::WRITER => Some(writing::agrees(case)),
+            _ => None,
         }
-    })
+    }
 }
 
 fn main(rt: HostRuntime) -> io::Result<()> {
-    run_kind(&rt, "reader", case::READER, reading::agrees)?;
-    run_kind(&rt, "writer", case::WRITER, writing::agrees)?;
+    for (group, kind) in [("reader", Kind::Reader), ("writer", Kind::Writer)] {
+        let mut source = File::open(&rt, "cases")?;
+        cases::run(&rt, &mut source, group, case::NAME, &kind)?;
+    }
     Ok(())
 }

@@ -7,4 +7,4 @@ abbrev pub invariant-loop-case : goal.invariant-loop-case
 invariant-loop-case g l =
     (goal.iterator-loop-case g).can_next l.case-iterator
     × (goal.iterator-loop-case g).is_finite l.case-iterator
-    × Comes (goal.F-post g l.agrees) l.yielded l.tally
+    × Comes (g.T.Test.says l.test) l.yielded l.tally
