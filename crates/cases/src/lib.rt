@@ -20,11 +20,11 @@ use std::{fmt, io};
 // What every byte that is lent for writing is beforehand.
 pub const PATTERN: u8 = 0xa5;
 
-// How many bytes of packed cases are read: more than any file of them has.
+// How many bytes of packed cases are read: more than any file of them has. The memory is fixed, so that no test asks for more.
 pub const ROOM: usize = 524288;
 
 // The bytes of a case.
-#[derive(Clone, Copy)]
+#[derive(Clone, Copy, Debug, PartialEq, Eq)]
 pub struct Case<'a> {
     pub packed: &'a [u8],
 }
@@ -78,7 +78,7 @@ impl<'a> Case<'a> {
 }
 
 // Cases that are packed one after the other. They end where the next would have no bytes, or more than are left.
-#[derive(Clone, Copy)]
+#[derive(Clone, Copy, Debug, PartialEq, Eq)]
 pub struct Cases<'a> {
     pub rest: &'a [u8],
 }

@@ -1,4 +1,5 @@
-// The choices of a point as one set of numbers, and what each comes to.
+// The choices of a point as one set of numbers, and what each comes to. A choice is the number of its bit in that set, as
+// `event_of` takes it, and no enum: the lowest choice is found by one instruction.
 ghost use Rattle.std.specs.Prelude.{◌≡◌, cond, eqb};
 ghost use Rattle.model.specs.Model.{then};
 ghost use Rattle.records.specs.Records.{record_at, observation_of};
