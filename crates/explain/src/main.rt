@@ -2,25 +2,16 @@
 // and write alone, without a heap; a read that fails ends the file, where std's reader would give an error in place of a text.
 #![tactic(auto)]
 
-ghost use Rattle.std.specs.Prelude.{◌≡◌, length};
-
 // The process's input and output.
 const STDIN: i32 = 0;
 
 const STDOUT: i32 = 1;
 
-// Room for the longest text.
-fn blank() -> [u8; report::ROOM]
-    ensures { 111888 ≡ length result }
-{
-    [0; report::ROOM]
-}
-
 fn main() {
     // 65,536 bytes are one more than the longest file has, so that a longer one is seen to be too long.
     let mut file = io::large_buffer();
     let length = io::read_full(STDIN, &mut file);
-    let mut text = blank();
+    let mut text = [0; report::ROOM];
     let size = report::report(&file[..length], &mut text);
     io::write_all(STDOUT, &text[..size]);
 }

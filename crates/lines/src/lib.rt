@@ -56,6 +56,7 @@ impl Line<'_> {
 }
 
 // Makes a line by what puts its pieces. Gives the number of bytes written, and 0 where the bytes are under the room asked for.
+// That is a count and no Option: `written` has it so, and where the count ends the next line begins.
 fn make_line<F: FnOnce(&mut Line<'_>)>(room: usize, out: &mut [u8], pieces: F) -> usize
     requires callable { F.IsAlwaysCallable pieces }
     requires keeps { KeepsBytes (λ l m. FnOnceReturnsAtMut F.FnOnce pieces l tt m) }

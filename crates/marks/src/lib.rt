@@ -101,7 +101,8 @@ pub fn remove<W: Word>(set: W, i: u8) -> W
     W::narrow((set.wide() | bit) ^ bit)
 }
 
-// The smallest number in a set, and the width where there is none.
+// The smallest number in a set, and the width where there is none: so `lowest` counts, as the machine does, and no Option is
+// taken apart in the walk.
 pub fn lowest<W: Word>(set: W) -> u8
     ensures { result ≡ lowest W.WIDTH (W.number set) }
 {

@@ -8,7 +8,8 @@ ghost use Rattle.model.specs.Kinds.{kind_of, code_of, unknown_text};
 use std::error::Error;
 use std::fmt;
 
-// What the service and its tablets hold. Wide fields first: 24 bytes.
+// What the service and its tablets hold. Wide fields first: 24 bytes. The values are an array and the marks are bits, as the
+// definitions in specs/Model.antt take them, with no heap.
 #[derive(Clone, Copy, Debug, PartialEq, Eq)]
 pub struct State {
     pub conflicts: u64,

@@ -49,7 +49,7 @@ impl From<&[u8; 12]> for Record {
     }
 }
 
-// The record at a place, or all 0 where fewer than 12 bytes are left.
+// The record at a place, or all 0 where fewer than 12 bytes are left: `record_at` has a record everywhere.
 #[tactic(auto, using(crate::proofs::Parts::record_part), unfolding(crate::specs::Records::record_at))]
 pub fn read_record(file: &[u8], at: usize) -> Record
     ensures { result ≡ record_at file.now at }

@@ -23,7 +23,7 @@ pub enum Refusal {
     Trace,
 }
 
-// A refusal by its number in the table, and its place.
+// A refusal by its number in the table, and its place. The numbers stand in the specification, and are what is told outside.
 #[derive(Clone, Copy, Debug, PartialEq, Eq)]
 pub struct Numbered {
     pub number: u32,

@@ -3,7 +3,8 @@ use crate::case;
 use cases::Case;
 use tracefile::{Numbered, Refusal};
 
-// A refusal by its number in the specification, and its place; 0 and 0 where there is none.
+// A refusal by its number in the specification, and its place; 0 and 0 where there is none. A function and no `From`: neither
+// type is declared here.
 fn told(checked: Result<(), Refusal>) -> Numbered {
     match checked {
         Ok(()) => Numbered {

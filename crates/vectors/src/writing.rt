@@ -12,32 +12,23 @@ struct Answer {
     length: usize,
 }
 
-impl From<Unwritten> for Answer {
-    fn from(unwritten: Unwritten) -> Answer {
-        let (refusal, place) = match unwritten {
-            Unwritten::Tablets => (3, 0),
-            Unwritten::Values => (4, 0),
-            Unwritten::Bodies => (5, 0),
-            Unwritten::Counts => (6, 0),
-            Unwritten::BadRecord(place) => (7, place),
-            Unwritten::Room => (9, 0),
+// The answer that the writer gave.
+impl From<Result<u32, Unwritten>> for Answer {
+    fn from(written: Result<u32, Unwritten>) -> Answer {
+        let (refusal, place, length) = match written {
+            Ok(length) => (0, 0, length as usize),
+            Err(Unwritten::Tablets) => (3, 0, 0),
+            Err(Unwritten::Values) => (4, 0, 0),
+            Err(Unwritten::Bodies) => (5, 0, 0),
+            Err(Unwritten::Counts) => (6, 0, 0),
+            Err(Unwritten::BadRecord(place)) => (7, place, 0),
+            Err(Unwritten::Room) => (9, 0, 0),
         };
         Answer {
             refusal,
             place,
-            length: 0,
+            length,
         }
-    }
-}
-
-fn told(written: Result<u32, Unwritten>) -> Answer {
-    match written {
-        Ok(length) => Answer {
-            refusal: 0,
-            place: 0,
-            length: length as usize,
-        },
-        Err(unwritten) => Answer::from(unwritten),
     }
 }
 
@@ -58,7 +49,7 @@ fn writes(case: Case<'_>, counts: &[u32], buffer: &mut [u8]) -> bool {
     let v = case.number(case::VALUES);
     let records = case.held(case::GIVEN);
     let written = writer::write_file(n, v, counts, records, buffer);
-    told(written) == Answer::from(case) && cases::stands(case.held(case::EXPECTED), buffer)
+    Answer::from(written) == Answer::from(case) && cases::stands(case.held(case::EXPECTED), buffer)
 }
 
 // The counts of a case, and 0 after the last of them.

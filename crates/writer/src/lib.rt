@@ -93,7 +93,7 @@ fn decide(n: u32, v: u32, counts: &[u32], records: &[u8], room: usize) -> Result
 }
 
 // Writes the file of n tablets, v values, bodies of these counts and all their records, back to back. It gives the file's
-// length.
+// length. n and v are any numbers and no `Limits`, since one that does not fit a byte is refused by its value.
 #[tactic(auto, using(crate::proofs::Decided::refused_keeps, crate::proofs::Buffer::entering))]
 pub fn write_file(
     n: u32,
