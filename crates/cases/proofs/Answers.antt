@@ -1,7 +1,7 @@
 -- Any two results that the contract of a public function of this crate allows for one input are equal; a part is its bytes.
 -- Not of `read_full`: how much each read of a file brings is no part of its input, nor is what stands in the room past that.
 -- Not of `run` either, which reads a file too: where its test has one answer for each case, any two tallies of the same cases are
--- equal.
+-- equal. What is printed of a tally is one text, its `output`.
 -- Assumes nothing.
 use mathlib.Core.Bool.{Bool}
 use mathlib.Core.List.{List, [], ◌∷◌}

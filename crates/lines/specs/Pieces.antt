@@ -1,4 +1,4 @@
--- What a piece does to a line, and what a line that is made of pieces gives.
+-- What a piece does to a line, and what a line that is made of pieces gives: for the contracts of private functions alone.
 use Rattle.std.specs.Prelude.{ℕ, List, ◌≡◌, ◌<◌, ◌≤◌, length}
 use Rattle.lines.specs.declared.pieces.Line.{Line}
 use Rattle.lines.specs.Put.{Put}

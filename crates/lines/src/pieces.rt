@@ -26,13 +26,10 @@ impl<'a> Line<'a> {
     pub fn put_byte(&mut self, byte: u8)
         ensures { Puts (byte ∷ []) self.old self.new }
     {
-        if self.at < self.out.len() {
-            self.out[self.at] = byte;
-            self.at += 1;
-        }
+        self.put(&[byte])
     }
 
-    // Puts some words.
+    // Puts some words. The place is compared by hand, so that nothing is added before it is known to fit.
     pub fn put(&mut self, words: &[u8])
         ensures { Puts words.now self.old self.new }
     {

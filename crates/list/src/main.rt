@@ -12,7 +12,7 @@ const STDOUT: i32 = 1;
 // Room for a line.
 const LINE: usize = 256;
 
-// Writes the first bytes of a line.
+// Writes the first bytes of a line, as many as the functions for lines count.
 fn say(line: &[u8], length: usize) {
     if let Some(text) = line.get(..length) {
         io::write_all(STDOUT, text);

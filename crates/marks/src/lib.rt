@@ -6,7 +6,7 @@ ghost use Rattle.std.specs.Prelude.{◌≡◌, ◌<◌, ◌≤◌, ◌%◌, ◌^
 ghost use Rattle.std.proofs.Common.{rules};
 ghost use Rattle.marks.specs.Sets.{has, add, remove, lowest};
 
-// What holds a set: the bits of one number, which is among those of 64 bits.
+// A number whose bits hold a set, of at most 64 bits.
 pub trait Word: Copy {
     // How many bits there are, and the number that they make.
     ghost WIDTH: { ℕ };

@@ -1,5 +1,5 @@
 -- Any two results that a conversion's contract allows for one input are equal: each contract is one equation of the result
--- with a definition.
+-- with a definition. What is printed of a byte that is no kind is one text, its `output`.
 -- Assumes nothing.
 use mathlib.Core.Path.{sym, ◌∙◌}
 use Rattle.model.proofs.KindTryFromU8.try_from.Kinds as try_from_kinds

@@ -5,6 +5,8 @@
 mod case;
 mod writing;
 
+ghost use Rattle.std.specs.Prelude.{IsTrue, is_some};
+
 use cases::{Case, Test};
 use std::fs::File;
 use std::io;
@@ -14,6 +16,8 @@ use std::io;
 struct Texts;
 
 impl Test for Texts {
+    ghost says = { λ _ _ answer. IsTrue (is_some answer) };
+
     fn agrees(&self, case: Case<'_>) -> Option<bool> {
         Some(writing::agrees(case))
     }

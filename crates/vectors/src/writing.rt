@@ -52,7 +52,7 @@ fn writes(case: Case<'_>, counts: &[u32], buffer: &mut [u8]) -> bool {
     Answer::from(written) == Answer::from(case) && cases::stands(case.held(case::EXPECTED), buffer)
 }
 
-// The counts of a case, and 0 after the last of them.
+// The counts of a case, and 0 after the last of them: fixed memory, with room for more than any case has.
 fn counts_of(case: Case<'_>) -> [u32; 32] {
     let held = Case {
         packed: case.held(case::COUNTS),

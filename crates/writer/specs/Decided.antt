@@ -1,4 +1,5 @@
--- What the writer has found out before it writes: how small each number is, and that the file fits.
+-- What the writer has found out before it writes: how small each number is, and that the file fits. For the contract of a private
+-- function alone.
 use Rattle.std.specs.Prelude.{ℕ, ◌≡◌, ◌*◌, ◌≤◌, List, length}
 use Rattle.tracefile.specs.File.{most, record_size}
 use Rattle.writer.specs.Written.{sum, file_size}
