@@ -1,4 +1,3 @@
 pub mod Answers
 pub mod Settled
 pub mod Stale
-pub mod Upload

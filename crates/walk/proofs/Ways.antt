@@ -3,7 +3,7 @@
 use mathlib.Core.Bool.{cond}
 use mathlib.Core.List.{List, ◌++◌, append-nil}
 use mathlib.Core.Path.{◌≡◌, refl, sym, ap, ap₂, ◌∙◌, subst}
-use Prim.Native.Nat.{ℕ, ◌+◌, ◌-◌, ◌*◌, ◌/◌, ◌≤◌, ◌<◌, ◌^◌}
+use Prim.Native.Nat.{ℕ, ◌+◌, ◌-◌, ◌/◌, ◌≤◌, ◌<◌, ◌^◌}
 use native.Mathlib.Nat.{le_of_eq}
 use native.Mathlib.Omega.{arith}
 use Rattle.std.proofs.lemmas.Bool.Decides.{nat_tests}
@@ -162,12 +162,7 @@ nothing_more n set s body room v is_none z =
     let h = no_choice n v.left set s body room z in
     record { result = no_end_is v is_none ∙ h.result; room = h.room }
 
--- ---- events fall at each visit, choices at each further choice
-
-pub choice_falls : (m x room rest set t : ℕ) → m * room + set ≡ t → x ≡ room → rest < set → m * x + rest < t
-choice_falls m x room rest set t e q h =
-    let k : m * x ≡ m * room = ap (λ (y : ℕ). m * y) q in
-    omega arith
+-- ---- choices fall at each further choice
 
 -- the set without its lowest is smaller
 pub fewer : (set pick rest : ℕ) → set < 2 ^ 64 → (set ≡ 0 → ⊥) → pick ≡ lowest 64 set → rest ≡ remove 64 set pick → rest < set
