@@ -1,7 +1,7 @@
 // Cases for the test programs, packed one after the other into bytes. A case is a head of numbers, 4 bytes each, least
 // byte first, and then its parts. The first number is the length of the whole case; for a part the head has two
-// numbers, where it starts in the case and its length. What is not there is 0, or empty. Here a file of them is read,
-// and a test is tried on each.
+// numbers, where it starts in the case and its length. What is not there is 0, or empty, as `number_at` and `part_at` have
+// it. Here a file of them is read, and a test is tried on each.
 #![tactic(auto)]
 
 ghost use Rattle.std.specs.Prelude.{◌≡◌, ℕ, ◌<◌, ◌≤◌, ◌++◌, Bool, EachIndex, IfOk, List, Option, Some, codes};

@@ -4,7 +4,7 @@ use cases::Case;
 use tracefile::Numbered;
 use verdict::{Refusal, Verdict};
 
-// What is compared: a status, 0 explained, 1 unexplained, 2 undecided, or 10 plus the number of a refusal; then points,
+// What is compared, the four numbers of the C call, whose library no crate can rest on: a status, 0 explained, 1 unexplained, 2 undecided, or 10 plus the number of a refusal; then points,
 // events and place, 0 where there is none. They are numbers and no enum, since the head of a packed case has them so.
 #[derive(Clone, Copy, Debug, PartialEq, Eq, Default)]
 struct Answer {
@@ -65,7 +65,9 @@ fn judges(case: Case<'_>, room: &mut [u8]) -> bool {
     answer == Answer::from(case) && cases::stands(case.held(case::EVENTS), room)
 }
 
-// Whether the call does what a case expects, in as much room as the case says; no case says more than there is here.
+// Whether the call does what a case expects, in as much room as the case says; no case says more than there is here. `printed`
+// and `vectors` do likewise, each with its own room and call: one function for all would take a closure, which may ask
+// something of its caller.
 pub fn agrees(case: Case<'_>) -> bool {
     let mut room = cases::filled::<8192>();
     match room.get_mut(..case.number(case::ROOM) as usize) {

@@ -1,8 +1,8 @@
 // When each event may happen, and what then holds, row by row of the table of events, from the first state on. Every
 // contract cites the table, the definitions `may` and `then` of model/specs/Model.antt. The number of tablets stays beside
 // the state and not in it, since `may n state event` and `then state event` take them apart. The proofs open these two
-// definitions; a function on one tablet names the definition that its own proof opens. Tests are joined by `&` and `|`, which
-// have one path through the code, as the table has one line.
+// definitions; a function on one tablet names the definition that its own proof opens. Tests are joined by `&`, which has
+// one path through the code, as the table has one line.
 #![tactic(auto, unfolding(model::specs::Model::may, model::specs::Model::then))]
 
 mod tablets;

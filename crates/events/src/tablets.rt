@@ -9,10 +9,10 @@ ghost use Rattle.model.specs.Model.{seats, seat, is_tablet, value_at, mark_at, f
 pub fn seats_of(n: u8) -> u8
     ensures { result ≡ seats n }
 {
-    if n < 8 { n } else { 8 }
+    n.min(8)
 }
 
-// The bit and the place that stand for a tablet.
+// The bit and the place that stand for a tablet, and 255 where there is none, as `seat` has it.
 #[tactic(auto, unfolding(model::specs::Model::seat))]
 pub fn seat_of(tablet: u8) -> u8
     ensures { result ≡ seat tablet }
@@ -28,7 +28,7 @@ pub fn tablet_of(n: u8, tablet: u8) -> bool
     (1..=seats_of(n)).contains(&tablet)
 }
 
-// The local value of a tablet.
+// The local value of a tablet, and 0 where there is none, as `value_at` has it.
 #[tactic(auto, unfolding(model::specs::Model::value_at))]
 pub fn local_value(local: [u8; 8], tablet: u8) -> u8
     ensures { result ≡ value_at local tablet }

@@ -1,4 +1,4 @@
-// The lines that people read, made in bytes that the caller lends. A line that might not fit is not begun. They are put by
+// The lines that people read, made in bytes that the caller lends. A line that might not fit is not begun. Lines are put by
 // functions with exact contracts, since it cannot be shown that what `write!` makes fits the bytes that are lent.
 #![tactic(auto)]
 

@@ -9,7 +9,7 @@ const STDIN: i32 = 0;
 
 const STDOUT: i32 = 1;
 
-// Room for a line.
+// Room for a line: fixed memory, no heap.
 const LINE: usize = 256;
 
 // Writes the first bytes of a line, as many as the functions for lines count.

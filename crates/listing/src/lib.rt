@@ -1,5 +1,5 @@
 // The reader that holds a body and stands at its next record. Its functions are thin: the work is done over a plain slice and
-// a number.
+// a number. They are no methods, since a method `next` would hide the iterator's.
 #![tactic(auto)]
 
 ghost use Rattle.std.specs.Prelude.{◌≡◌};

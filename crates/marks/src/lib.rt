@@ -15,12 +15,12 @@ pub trait Word: Copy {
 
     const WIDTH: u8;
 
-    // The number itself, with its bound: no law can say it, since in a law a byte is any number.
+    // The number itself, and its bound: a clause and no law, since in a law a byte is any number.
     fn wide(self) -> u64
         ensures number { result ≡ number self }
         ensures bound { result < 2 ^ WIDTH };
 
-    // The word of a number's lowest bits.
+    // The word of a number's lowest bits: `% 256` for a byte, as the contract has it, since `as` may lose nothing.
     fn narrow(wide: u64) -> Self
         ensures { number result ≡ wide % 2 ^ WIDTH };
 
@@ -101,8 +101,8 @@ pub fn remove<W: Word>(set: W, i: u8) -> W
     W::narrow((set.wide() | bit) ^ bit)
 }
 
-// The smallest number in a set, and the width where there is none: so `lowest` counts, as the machine does, and no Option is
-// taken apart in the walk.
+// The smallest number in a set, and the width where there is none, as `lowest` of specs/Sets.antt has it; with an Option the walk
+// would have a case that never happens.
 pub fn lowest<W: Word>(set: W) -> u8
     ensures { result ≡ lowest W.WIDTH (W.number set) }
 {

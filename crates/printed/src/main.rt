@@ -11,7 +11,7 @@ use cases::{Case, Test};
 use std::fs::File;
 use std::io;
 
-// The test: every case is one of its own.
+// The test: every case is one of its own. As in `evenings`, the list of files and what is tried are this program's.
 #[derive(Clone, Copy)]
 struct Texts;
 

@@ -4,7 +4,7 @@ use cases::Case;
 use tracefile::Refusal;
 use verdict::Verdict;
 
-// What a case asks for: the text for a file, or one line.
+// What a case asks for: the text for a file, or one line. It stands as a number in the case, so one place has to choose.
 enum Asked {
     Report,
     Answer,
@@ -28,7 +28,8 @@ impl From<u32> for Asked {
     }
 }
 
-// The refusal of a file that has a number in the table. The numbers are those of the packed cases.
+// The refusal of a file that has a number in the table. The numbers are those of the packed cases. A function and no `From`:
+// neither type is declared here.
 fn refusal(number: u32, place: u32) -> Refusal {
     match number {
         1 => Refusal::Length,

@@ -117,7 +117,7 @@ impl Limits {
             && below(self.values, r.set)
     }
 
-    // Whether a record keeps its row of the table.
+    // Whether a record keeps the row of its kind. UP, DOWN and bytes that are no kind have no row.
     #[tactic(auto, unfolding(crate::specs::Records::keeps_row))]
     pub fn keep(self, r: Record) -> bool
         ensures { result ≡ keeps_row self.tablets self.values r }

@@ -13,7 +13,7 @@ use traces::put_traces;
 // The room for the longest text: a file has at most 16 traces.
 pub const ROOM: usize = 16 * traces::TRACE;
 
-// Writes what is printed for a file. Gives the number of bytes written, and 0 where the room is too little.
+// Writes what is printed for a file. Gives the number of bytes written, and 0 where the room is too little, as `written` has it.
 pub fn report(file: &[u8], out: &mut [u8]) -> usize
     ensures result { result ≡ written report_room (printed file.now) out.old }
     ensures out { out.new ≡ after report_room (printed file.now) out.old }

@@ -7,7 +7,7 @@ ghost use Rattle.tracefile.specs.File.{entry, tablets_in, values_in, bodies_in, 
 use crate::Refusal;
 use records::{Limits, read_record};
 
-// The byte at a place, and 0 past the end.
+// The byte at a place, and 0 past the end, as `byte` has it.
 fn byte_at(file: &[u8], at: usize) -> u8
     ensures { result ≡ byte file.now at }
 {
@@ -53,7 +53,7 @@ impl Head {
     }
 }
 
-// Refusals 1 to 5.
+// Refusals 1 to 5. The ranges are compared one by one: with `contains` the check does not find the proof within half its limits.
 #[tactic(auto, unfolding(crate::specs::File::head))]
 pub fn check_head(file: &[u8]) -> Result<(), Refusal>
     ensures { told result ≡ head file.now }
@@ -104,7 +104,8 @@ pub fn check_contents(file: &[u8]) -> Result<(), Refusal>
     Ok(())
 }
 
-// Refusal 7: the first bad record in file order, over all bodies.
+// Refusal 7: the first bad record in file order, over all bodies. The writer has such a loop over records alone: each is proved
+// against its own definition, `in_body` here and `bad_record` there.
 #[tactic(auto, using(crate::proofs::Loops::records_steps), unfolding(crate::specs::File::records))]
 pub fn check_records(file: &[u8]) -> Result<(), Refusal>
     ensures { told result ≡ records file.now }

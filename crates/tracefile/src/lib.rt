@@ -89,7 +89,8 @@ pub fn check_asked(file: &[u8], trace: u32) -> Result<(), Refusal>
     Ok(())
 }
 
-// The body of the asked trace, as a part of the file, or why there is none: refusals 1 to 8.
+// The body of the asked trace, as a part of the file, or why there is none: refusals 1 to 8. File and number stay apart, as the C
+// call and `asked` have them.
 #[tactic(auto, using(crate::proofs::Good::placed))]
 pub fn body_of(file: &[u8], trace: u32) -> Result<&[u8], Refusal>
     ensures body { IfOk result (λ body. (check_trace file.now trace ≡ accepted) × (body.now ≡ asked file.now trace)) }
@@ -102,7 +103,8 @@ pub fn body_of(file: &[u8], trace: u32) -> Result<&[u8], Refusal>
     Ok(&file[start..start + 12 * count])
 }
 
-// The body of the asked trace, as a part of the file; empty where 1 to 8 apply.
+// The body of the asked trace, as a part of the file; empty where 1 to 8 apply. That is no Option, since `asked` has it so, and
+// this cannot fail: `body_of` gives the refusal.
 pub fn asked_body(file: &[u8], trace: u32) -> &[u8]
     ensures { result.now ≡ asked file.now trace }
 {

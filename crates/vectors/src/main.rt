@@ -9,7 +9,7 @@ use cases::{Case, Test};
 use std::fs::File;
 use std::io;
 
-// Which cases are run: those of both kinds stand in one file.
+// Which cases are run, and so by what they are judged: those of both kinds stand in one file, and are run in one `for`.
 #[derive(Clone, Copy)]
 enum Kind {
     Reader,

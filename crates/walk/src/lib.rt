@@ -1,5 +1,5 @@
-// The ordered walk over a body: visit and choose call each other. Events fall at each visit, choices at each further
-// choice; the room is written only on the way back from the first end.
+// The ordered walk over a body: visit and choose call each other. The room that is left falls at each visit, the choices
+// at each further choice; the room is written only on the way back from the first end.
 #![tactic(auto)]
 
 mod choices;
@@ -40,7 +40,7 @@ struct Seen {
 }
 
 // Visits a point, which is counted already: left is what the budget still has. Body, state, budget and room change each by
-// itself from one step to the next, so they stand apart.
+// itself from one step to the next, so they stand apart, and n, which does not, is none of theirs.
 #[cycle(choose_visit)]
 fn visit(n: u8, body: &[u8], state: &State, left: u32, room: &mut [u8]) -> Result<Seen, Stop>
     ensures result { result ≡ left_of (left + 1) (walked (service n) (length room.old / 2) state.now (observations body.now)) }
@@ -117,6 +117,7 @@ pub fn walk(n: u8, body: &[u8], budget: u32, room: &mut [u8]) -> Result<Walked, 
         return Err(Stop::NoRoom);
     }
     let left = budget.checked_sub(1).ok_or(Stop::Spent)?;
+    // With `usize::from` the proof does not know that the limit is the depth's.
     let limit = 2 * (t + (n as usize) * w);
     // The root is visited here. Then `visit` is called by `choose` alone, becomes a part of it, and an event takes one frame.
     if body.len() < 12 {

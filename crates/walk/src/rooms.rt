@@ -36,5 +36,5 @@ pub fn short_of(n: u8, t: usize, w: usize, room: usize) -> bool
     if w == 0 {
         return false;
     }
-    (pairs - t) / w < n as usize
+    (pairs - t) / w < usize::from(n)
 }

@@ -9,7 +9,8 @@ ghost use Rattle.writer.specs.Decided.{Decided};
 
 use records::{Limits, read_record};
 
-// Why nothing was written. The place is 0 where a case carries none.
+// Why nothing was written. The place is 0 where a case carries none. It is no `tracefile::Refusal`: the places are others, and
+// a file is never refused for room.
 #[derive(Clone, Copy, Debug, PartialEq, Eq)]
 pub enum Unwritten {
     Tablets,

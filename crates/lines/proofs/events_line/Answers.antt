@@ -18,10 +18,3 @@ returns c =
     let room : c.in-Some.room ≡ events_room c.args.events.now = grind (arith, common_steps) in
     let both = made_line {text = events_text c.args.events.now} (rw room at c.make_line.ensures) (λ l m p. search rules) (events_few c.args.events.now) in
     record { result = both.0; out = both.1 }
-
-pub returns-in_default : goal.returns-in_default
-returns-in_default c =
-    let large : 2 ^ 64 ≤ events_room c.args.events.now = grind (arith, common_steps) in
-    let less : length c.args.out.now < 2 ^ 64 = search rules in
-    let both = line_kept (events_room c.args.events.now) (events_text c.args.events.now) c.args.out.now (omega arith) in
-    record { result = both.0; out = both.1 }
