@@ -4,8 +4,9 @@ use cases::Case;
 use tracefile::Numbered;
 use verdict::{Refusal, Verdict};
 
-// What is compared, the four numbers of the C call, whose library no crate can rest on: a status, 0 explained, 1 unexplained, 2 undecided, or 10 plus the number of a refusal; then points,
-// events and place, 0 where there is none. They are numbers and no enum, since the head of a packed case has them so.
+// What is compared, the four numbers of the C call, whose library no crate can rest on: a status, 0 explained, 1 unexplained,
+// 2 undecided, or 10 plus the number of a refusal; then points, events and place, 0 where there is none. They are numbers and
+// no enum, since the head of a packed case has them so.
 #[derive(Clone, Copy, Debug, PartialEq, Eq, Default)]
 struct Answer {
     status: u32,

@@ -51,8 +51,8 @@ impl From<Refusal> for Numbered {
 }
 
 // Says whether trace `trace` of the file can be explained within a budget of points. An explanation is written into the
-// room, two bytes an event; otherwise the room stays as it was. What stops a walk is turned here and by no `From`: a spent budget is
-// a verdict, and the other two are refusals.
+// room, two bytes an event; otherwise the room stays as it was. What stops a walk is turned here and by no `From`: a spent
+// budget is a verdict, and the other two are refusals.
 pub fn explain(file: &[u8], trace: u32, budget: u32, room: &mut [u8]) -> Result<Verdict, Refusal>
     ensures result { told result ≡ judged file.now trace budget (length room.old) }
     ensures room { room.new ≡ room_judged file.now trace budget room.old }
