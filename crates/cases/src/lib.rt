@@ -174,7 +174,8 @@ pub trait Test {
         ensures { says self.now case.entry result };
 }
 
-// Tries a test on packed cases, in their order, and says the name of each that differs.
+// Tries a test on packed cases, in their order, and says the name of each that differs. It takes what `run` takes, which alone
+// calls it.
 fn run_packed<R: Print, T: Test>(
     rt: &R,
     group: &str,

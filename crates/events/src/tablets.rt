@@ -72,7 +72,7 @@ pub fn others_stale(fresh: u8, tablet: u8) -> u8
     left
 }
 
-// Whether a tablet is fresh and clean.
+// Whether a tablet is fresh and clean. The two sets of marks stay apart, as `fresh_and_clean` has them.
 #[tactic(auto, unfolding(model::specs::Model::fresh_and_clean))]
 fn settled(fresh: u8, dirty: u8, tablet: u8) -> bool
     ensures { result ≡ fresh_and_clean fresh dirty tablet }

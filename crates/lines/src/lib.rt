@@ -1,5 +1,6 @@
 // The lines that people read, made in bytes that the caller lends. A line that might not fit is not begun. Lines are put by
-// functions with exact contracts, since it cannot be shown that what `write!` makes fits the bytes that are lent.
+// functions with exact contracts, since it cannot be shown that what `write!` makes fits the bytes that are lent. Each says by the
+// same two clauses what it gives and what it leaves in the bytes.
 #![tactic(auto)]
 
 mod notation;

@@ -45,7 +45,7 @@ impl<'a> Line<'a> {
         self.at = next;
     }
 
-    // Puts a number, in decimal digits.
+    // Puts a number, in decimal digits. `as` is proved to lose nothing of a digit.
     pub fn put_decimal(&mut self, number: u32)
         ensures { Puts (decimal number) self.old self.new }
     {

@@ -102,7 +102,7 @@ pub fn remove<W: Word>(set: W, i: u8) -> W
 }
 
 // The smallest number in a set, and the width where there is none, as `lowest` of specs/Sets.antt has it; with an Option the walk
-// would have a case that never happens.
+// would have a case that never happens. `as` is proved to lose nothing; `try_from` would have an arm that is never taken.
 pub fn lowest<W: Word>(set: W) -> u8
     ensures { result ≡ lowest W.WIDTH (W.number set) }
 {

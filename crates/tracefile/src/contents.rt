@@ -1,4 +1,5 @@
-// The three checks of a file, each total by itself: its head, its contents, and its records.
+// The three checks of a file, each total by itself: its head, its contents, and its records. Where `as` narrows a number, it is
+// proved to lose nothing; `try_from` would have an arm that is never taken.
 ghost use Rattle.std.specs.Prelude.{◌≡◌};
 ghost use Rattle.records.specs.Bytes.{byte, number};
 ghost use Rattle.tracefile.specs.Refusals.{told};

@@ -8,7 +8,8 @@ ghost use Rattle.verdict.specs.Judged.{told, judged, room_judged, refused};
 use tracefile::Numbered;
 use walk::{Stop, Walked};
 
-// What is said of a trace.
+// What is said of a trace. The events stand in the room, and here is how many they are, as the C call tells it; `as` is proved to
+// lose nothing of it.
 #[derive(Clone, Copy, Debug, PartialEq, Eq)]
 pub enum Verdict {
     Explained { points: u32, events: u32 },

@@ -8,7 +8,8 @@ ghost use Rattle.walk.specs.Steps.{event_bytes};
 
 use model::{Kind, Observation, State};
 
-// What the body's first record says: the next observation.
+// What the body's first record says: the next observation. The contracts here name it in the words of `records`, of which each is
+// defined.
 fn next_observation(body: &[u8]) -> Observation
     ensures { result ≡ observation_of (record_at body.now 0) }
 {

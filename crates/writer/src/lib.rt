@@ -1,4 +1,6 @@
-// A trace file from records. It decides before it writes, so that a refusal leaves the whole buffer as it was.
+// A trace file from records. It decides before it writes, so that a refusal leaves the whole buffer as it was. Where `as` narrows
+// a number, it is proved to lose nothing; `try_from` would have an arm that is never taken. Counts and records are two lists, as
+// `file_of` has them.
 #![tactic(auto)]
 
 ghost use Rattle.std.specs.Prelude.{◌≡◌, cond, not, ◌||◌, ◌*◌, ltb, eqb, length, IfOk};
