@@ -157,10 +157,10 @@ impl fmt::Display for Tally {
 }
 
 // Says the name of a case that differs.
-fn say_name(rt: &impl Print, group: &str, name: &[u8]) -> io::Result<()> {
-    print!(rt; "{group}: ")?;
-    rt.write_all(name)?;
-    println!(rt; " differs")
+fn say_name(rt: &impl Print, group: &str, name: &[u8]) {
+    let _ = print!(rt; "{group}: ");
+    let _ = rt.write_all(name);
+    let _ = println!(rt; " differs");
 }
 
 // A test of cases. It is a trait and no closure: a closure may ask something of its caller, and `run` would have to ask it of
@@ -174,16 +174,17 @@ pub trait Test {
         ensures { says self.now case.entry result };
 }
 
-// Tries a test on packed cases, in their order, and says the name of each that differs. It takes what `run` takes, which alone
-// calls it.
-fn run_packed<R: Print, T: Test>(
+// Tries a test on packed cases, in their order. Says the name of each that differs, and then in one line how many there are and
+// how many differ. The name of a case is the part that its head names at a place. What cannot be printed is left out: the answer
+// is the tally all the same. `run` takes the same, with a source in place of the bytes, and hands it on once.
+pub fn run_packed<R: Print, T: Test>(
     rt: &R,
     group: &str,
     name: usize,
     packed: &[u8],
     test: &T,
-) -> io::Result<Tally>
-    ensures { IfOk result (λ tally. Tallies (T.says test.now) (cases_in packed.now) tally) }
+) -> Tally
+    ensures { Tallies (T.says test.now) (cases_in packed.now) result }
 {
     let mut tally = Tally {
         cases: 0,
@@ -193,16 +194,16 @@ fn run_packed<R: Print, T: Test>(
         let answer = test.agrees(case);
         let differs = answer == Some(false);
         if differs {
-            say_name(rt, group, case.held(name))?;
+            say_name(rt, group, case.held(name));
         }
         tally.cases += usize::from(answer.is_some());
         tally.differ += usize::from(differs);
     }
-    Ok(tally)
+    let _ = println!(rt; "{group}: {tally}");
+    tally
 }
 
-// Reads packed cases, tries a test on them, and says the name of each that differs, and then in one line how many there
-// are and how many differ. The name of a case is the part that its head names at a place.
+// Reads packed cases, and runs a test on them.
 pub fn run<R: Print, S: Read, T: Test>(
     rt: &R,
     source: &mut S,
@@ -217,7 +218,5 @@ pub fn run<R: Print, S: Read, T: Test>(
 {
     let mut room = filled::<ROOM>();
     let length = read_full(source, &mut room)?;
-    let tally = run_packed(rt, group, name, &room[..length], test)?;
-    println!(rt; "{group}: {tally}")?;
-    Ok(tally)
+    Ok(run_packed(rt, group, name, &room[..length], test))
 }

@@ -1,6 +1,6 @@
 -- What the call hands back, in terms of what it calls.
 -- Assumes nothing.
-use Prim.Native.Nat.{ℕ, ◌-◌}
+use Prim.Native.Nat.{ℕ, ◌-◌, ◌≤◌}
 use native.Mathlib.Omega.{arith}
 use mathlib.Core.List.{List, ◌++◌}
 use mathlib.Core.Path.{◌≡◌, refl, ap, ◌∙◌}
@@ -8,11 +8,25 @@ use Rattle.std.proofs.Common.{Result}
 use lib.ListN.{length, drop, drop_of_length-le}
 use borrow.Rule.Slice.PartMut.{put_mid}
 use borrow.Author.Tests.{eq-eqb, ne_eqb}
+use Rattle.tracefile.specs.Refusals as R
+use Rattle.tracefile.specs.declared.Refusal.{Refusal as FileRefusal}
+use Rattle.tracefile.specs.declared.Refusal.TheVariants.{Length, Edition, Tablets, Values, Bodies, Contents, BadRecord, Trace}
 use Rattle.verdict.specs.Judged.{judged, room_judged, told}
 use Rattle.verdict.specs.declared.Verdict.{Verdict}
 use Rattle.verdict.specs.declared.Refusal.{Refusal}
 use Rattle.console.specs.Called.{handed_by, four_bytes, area_of, status, room_after, area_after}
 use Rattle.console.specs.declared.Handed.{Handed}
+
+-- the number of a refusal of a file is small
+pub number_small : (r : FileRefusal) (number place : ℕ) → R.refused number place ≡ R.refusal r → number ≤ 8
+number_small Length number place h = let e : number ≡ 1 = cc in omega arith
+number_small Edition number place h = let e : number ≡ 2 = cc in omega arith
+number_small Tablets number place h = let e : number ≡ 3 = cc in omega arith
+number_small Values number place h = let e : number ≡ 4 = cc in omega arith
+number_small Bodies number place h = let e : number ≡ 5 = cc in omega arith
+number_small (Contents at) number place h = let e : number ≡ 6 = cc in omega arith
+number_small (BadRecord at) number place h = let e : number ≡ 7 = cc in omega arith
+number_small Trace number place h = let e : number ≡ 8 = cc in omega arith
 
 -- the area is filled in three parts, whatever it held
 pub filled : (area : List ℕ) (x y z : ℕ)

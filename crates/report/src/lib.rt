@@ -22,7 +22,7 @@ pub fn report(file: &[u8], out: &mut [u8]) -> usize
         return 0;
     }
     match tracefile::check_file(file) {
-        Ok(()) => put_traces(file, file[3], out),
+        Ok(()) => put_traces(file, u32::from(file[3]), out),
         Err(refusal) => lines::refusal_line(refusal, out),
     }
 }

@@ -46,11 +46,11 @@ fn put_trace(file: &[u8], trace: u32, out: &mut [u8]) -> usize
 }
 
 // Puts the lines of all traces of a good file. Gives the number of bytes written.
-pub fn put_traces(file: &[u8], traces: u8, out: &mut [u8]) -> usize
+pub fn put_traces(file: &[u8], traces: u32, out: &mut [u8]) -> usize
     ensures { check file.now ≡ accepted → traces ≡ bodies_in file.now → PutIn (traces * trace_room) (traces_text file.now traces 1) out.old 0 result out.new }
 {
     let mut size = 0;
-    for trace in 1..u32::from(traces) + 1 {
+    for trace in 1..=traces {
         size += put_trace(file, trace, &mut out[size..]);
     }
     size

@@ -9,7 +9,7 @@ use crate::Refusal;
 use records::{Limits, read_record};
 
 // The byte at a place, and 0 past the end, as `byte` has it.
-fn byte_at(file: &[u8], at: usize) -> u8
+pub fn byte_at(file: &[u8], at: usize) -> u8
     ensures { result ≡ byte file.now at }
 {
     file.get(at).copied().unwrap_or(0)

@@ -76,7 +76,7 @@ pub fn check_file(file: &[u8]) -> Result<(), Refusal>
     check_records(file)
 }
 
-// Whether the whole file is good and has a trace of this number: refusals 1 to 8.
+// Whether the whole file is good and has a trace of this number: refusals 1 to 8. The range is compared as those of the head are.
 #[tactic(auto, using(crate::proofs::Loops::first_refusal), unfolding(crate::specs::File::check_trace))]
 pub fn check_asked(file: &[u8], trace: u32) -> Result<(), Refusal>
     ensures { told result ≡ check_trace file.now trace }

@@ -5,7 +5,7 @@ mod case;
 mod reading;
 mod writing;
 
-use cases::{Case, Test};
+use cases::{Case, ROOM, Test};
 use std::fs::File;
 use std::io;
 
@@ -28,9 +28,12 @@ impl Test for Kind {
 }
 
 fn main(rt: HostRuntime) -> io::Result<()> {
+    // The file is read once, whatever it is, and both kinds of cases are run on what came.
+    let mut source = File::open(&rt, "cases")?;
+    let mut room = cases::filled::<ROOM>();
+    let length = cases::read_full(&mut source, &mut room)?;
     for (group, kind) in [("reader", Kind::Reader), ("writer", Kind::Writer)] {
-        let mut source = File::open(&rt, "cases")?;
-        cases::run(&rt, &mut source, group, case::NAME, &kind)?;
+        cases::run_packed(&rt, group, case::NAME, &room[..length], &kind);
     }
     Ok(())
 }

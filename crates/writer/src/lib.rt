@@ -53,7 +53,8 @@ fn fitted(size: u32, room: usize) -> Result<u32, Unwritten>
     Ok(size)
 }
 
-// Refusal 7 at the first of so many records that breaks its row.
+// Refusal 7 at the first of so many records that breaks its row. `check_records` of `tracefile` has such a loop over the bodies of a
+// file: each is proved against its own definition, `bad_record` here and `in_body` there.
 #[tactic(auto, using(crate::proofs::Rows::rows_steps))]
 fn first_bad(limits: Limits, records: &[u8], all: u16) -> Result<(), Unwritten>
     ensures { (good : Outcome) → and_then result good ≡ bad_record limits.tablets limits.values records.now all 0 good }
@@ -67,7 +68,8 @@ fn first_bad(limits: Limits, records: &[u8], all: u16) -> Result<(), Unwritten>
     Ok(())
 }
 
-// What writing comes to: each refusal in its order, or the length of the file.
+// What writing comes to: each refusal in its order, or the length of the file. The ranges are compared one by one: with `contains`
+// the proof did not close.
 #[tactic(auto, unfolding(crate::specs::Written::write, crate::specs::Written::rows_then_room))]
 fn decide(n: u32, v: u32, counts: &[u32], records: &[u8], room: usize) -> Result<u32, Unwritten>
     ensures told { told result ≡ write n v counts.now records.now room }

@@ -11,3 +11,8 @@ loop-trace-preserved c =
 
 pub returns : goal.returns
 returns c = all_put _ _ _ _ _ _ c.loop-trace.invariant (omega arith)
+
+pub returns-2 : goal.returns-2
+returns-2 c =
+    all_put _ _ _ _ _ _ (one_more _ _ _ _ _ _ _ _ c.loop-trace.invariant (omega arith) (omega arith) c.put_trace-size.ensures.within (search rules) c.put_trace-size.ensures.text)
+    (omega arith)
